@@ -1,0 +1,18 @@
+//! What every crate of the control plane names: lists that contracts see as lists, want of memory, and a count without bytes.
+//!
+//! `bytes` and `items` are the two list types of the public surface, `memory` is the answer for
+//! want of memory, and `count` is a number that contracts alone see.
+//! It knows nothing of keys, stores or clusters.
+#![tactic(auto)]
+
+mod bytes;
+mod count;
+mod items;
+mod memory;
+#[cfg(test)]
+mod tests;
+
+pub use bytes::Bytes;
+pub use count::Count;
+pub use items::Items;
+pub use memory::Memory;
