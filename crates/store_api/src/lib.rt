@@ -11,6 +11,8 @@ mod change;
 mod in_memory;
 mod store;
 mod streams;
+#[cfg(test)]
+mod tests;
 
 pub use adapters::{ReaderSource, WriterSink};
 pub use change::{Batch, Change, Delivery, Listing, Op, Pair, Range, Ranges, Revision, StoreFault};

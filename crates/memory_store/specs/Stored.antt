@@ -1,0 +1,52 @@
+-- What a store in memory holds: a log, of which its contents are a function.
+-- Source: etcd, "Data model" (a store is the log of what was done to it).
+use Rattle.std.specs.Prelude.{ℕ, List, [], ◌∷◌, ◌++◌, true, None}
+use Rattle.std.specs.List.{flat_map}
+use Rattle.store_api.specs.History.{History, revision, live_at, changes_of}
+use Rattle.store_api.specs.Contents.{Contents, LeaseTable, empty_contents}
+use Rattle.store_api.specs.Meaning.{Meaning}
+use Rattle.store_api.specs.declared.change.Change.{Change}
+use Rattle.store_api.specs.declared.change.Op.{Op}
+
+-- what was done to a store, and by which writer
+pub data Entry : Type 0 where
+  Committed : (writer : ℕ) (changes : List Change) → Entry
+
+-- what a store in memory holds: its log, and how often it was called
+pub record Stored : Type 0 where
+  pub log : List Entry
+  pub calls : ℕ
+
+-- what the revisions that an entry makes change
+abbrev pub revisions_by : Entry → List (List Change)
+revisions_by (Committed writer changes) = changes ∷ []
+
+abbrev pub history_of : List Entry → History
+history_of log = flat_map revisions_by log
+
+-- no lease was granted
+abbrev pub leases_of : List Entry → LeaseTable
+leases_of log = empty_contents.leases
+
+abbrev pub contents_of : List Entry → Contents
+contents_of log = record { history = history_of log; compacted = 0; leases = leases_of log }
+
+-- no call fails, no call is told, nobody else writes, and every key may be written
+abbrev pub meaning_of : Stored → Meaning
+meaning_of s = record {
+  contents = contents_of s.log;
+  faults = 0;
+  calls = s.calls;
+  told = None;
+  quiet = true;
+  writable = λ _. true;
+}
+
+-- the log with the changes as one entry more, where there are any
+abbrev pub with_entry : List Entry → ℕ → List Change → List Entry
+with_entry log writer [] = log
+with_entry log writer (c ∷ changes) = log ++ Committed writer (c ∷ changes) ∷ []
+
+-- the log after a transaction of the operations by the writer
+abbrev pub logged : List Entry → ℕ → List Op → List Entry
+logged log writer ops = with_entry log writer (changes_of (live_at (history_of log) (revision (history_of log))) ops)

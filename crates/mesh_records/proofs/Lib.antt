@@ -1,0 +1,6 @@
+pub mod ConfigBack
+pub mod Cuts
+pub mod Fronts
+pub mod LabelSteps
+pub mod LabelsBack
+pub mod Written

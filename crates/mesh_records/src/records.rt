@@ -1,0 +1,148 @@
+use mesh_base::{Bytes, Items};
+use mesh_text::{Ip, Text};
+use std::marker::Model;
+
+/// What a cluster says of itself.
+#[derive(Clone, Copy, Debug, PartialEq, Eq)]
+pub struct ClusterConfig {
+    /// The cluster's number.
+    pub id: u32,
+    /// The cluster puts a mark for each kind of record once all of that kind are written.
+    pub synced_canaries: bool,
+    /// The records are copies that KVStoreMesh keeps.
+    pub cached: bool,
+    /// How many clusters the mesh may have, never 0.
+    pub max_connected: u32,
+}
+
+impl Model for ClusterConfig {
+    ghost use Rattle.std.specs.Prelude.{◌<◌};
+    ghost use Rattle.mesh_records.specs.Values.{Config};
+
+    ghost Value = { Config };
+
+    ghost view = { λ c. record { id = c.id; synced_canaries = c.synced_canaries; cached = c.cached; max_connected = c.max_connected } };
+
+    ghost invariant = { λ c. 0 < c.max_connected };
+
+    ghost inverse = { λ c. record { id = c.id; synced_canaries = c.synced_canaries; cached = c.cached; max_connected = c.max_connected } };
+}
+
+/// A node of a cluster.
+#[derive(Debug, Drop)]
+pub struct Node {
+    pub name: Text,
+    pub cluster: Text,
+    /// The number of its cluster.
+    pub cluster_id: u32,
+    /// Its addresses in the order of the value, each with its type, as `InternalIP`.
+    pub addresses: Items<(Text, Ip)>,
+}
+
+/// An address of the mesh.
+#[derive(Debug, Drop)]
+pub struct AddressRecord {
+    pub ip: Ip,
+    /// The address of the host that it is on.
+    pub host: Option<Ip>,
+    /// The number of its identity.
+    pub id: u32,
+    /// The namespace of its pod, never the empty text.
+    pub namespace: Option<Text>,
+    /// The name of its pod, never the empty text.
+    pub pod: Option<Text>,
+}
+
+impl Model for AddressRecord {
+    ghost use Rattle.std.specs.Prelude.{◌<◌, length, IfSome};
+    ghost use Rattle.mesh_records.specs.Values.{Address};
+
+    ghost Value = { Address };
+
+    ghost view = { λ a. record { ip = a.ip; host = a.host; id = a.id; namespace = a.namespace; pod = a.pod } };
+
+    ghost invariant = { λ a. IfSome a.namespace (λ t. 0 < length t) × IfSome a.pod (λ t. 0 < length t) };
+}
+
+/// A label of an identity, as `k8s:app=web;`.
+#[derive(Debug, Drop)]
+pub struct Label {
+    /// One or more bytes without `:`, `=` and `;`.
+    pub source: Bytes,
+    /// One or more bytes without `=` and `;`.
+    pub key: Bytes,
+    /// Bytes without `;`.
+    pub value: Bytes,
+}
+
+impl Model for Label {
+    ghost use Rattle.mesh_records.specs.Values.{LabelText};
+
+    ghost Value = { LabelText };
+
+    ghost use Rattle.mesh_records.specs.Labels.{IsLabel};
+
+    ghost view = { λ l. record { source = l.source; key = l.key; value = l.value } };
+
+    ghost invariant = { λ l. IsLabel (record { source = l.source; key = l.key; value = l.value }) };
+}
+
+/// The labels of an identity, in the order of the value.
+#[derive(Debug, Drop)]
+pub struct IdentityRecord {
+    pub labels: Items<Label>,
+}
+
+/// A port of an address that a cluster offers for a service.
+#[derive(Debug, Drop)]
+pub struct Backend {
+    pub ip: Ip,
+    pub port: u16,
+    /// 1 to 16 ASCII letters or digits, as `TCP`.
+    pub protocol: Text,
+    pub port_name: Text,
+}
+
+impl Model for Backend {
+    ghost use Rattle.std.specs.Prelude.{◌≡◌, true};
+    ghost use Rattle.mesh_records.specs.Values.{BackendPort};
+
+    ghost Value = { BackendPort };
+
+    ghost use Rattle.mesh_records.specs.Backends.{is_protocol};
+
+    ghost view = { λ b. record { ip = b.ip; port = b.port; protocol = b.protocol; port_name = b.port_name } };
+
+    ghost invariant = { λ b. is_protocol b.protocol ≡ true };
+}
+
+/// A service, with the backends that its cluster offers for it.
+#[derive(Debug, Drop)]
+pub struct ServiceRecord {
+    pub cluster: Text,
+    pub namespace: Text,
+    pub name: Text,
+    /// The number of its cluster.
+    pub cluster_id: u32,
+    /// In order of address and port name, no two equal in both.
+    pub backends: Items<Backend>,
+    /// Other clusters may use the backends.
+    pub shared: bool,
+}
+
+impl Model for ServiceRecord {
+    ghost use Rattle.mesh_records.specs.Values.{Service};
+
+    ghost Value = { Service };
+
+    ghost view = { λ s. record { cluster = s.cluster; namespace = s.namespace; name = s.name; cluster_id = s.cluster_id; backends = s.backends; shared = s.shared } };
+}
+
+/// A record of one of the four kinds.
+#[derive(Debug, Drop)]
+pub enum Record {
+    Node(Node),
+    Service(ServiceRecord),
+    Identity(IdentityRecord),
+    Address(AddressRecord),
+}

@@ -1,0 +1,82 @@
+ghost use Rattle.std.specs.Prelude.{◌≡◌, ◌<◌, ◌≤◌, ◌^◌, ◌++◌, Some, Ok, IfOk, OnOk, false};
+ghost use Rattle.std.specs.List.{All, flat_map};
+ghost use Rattle.serde_json.specs.Data.{depth};
+ghost use Rattle.serde_json.specs.View.{view};
+ghost use Rattle.serde_json.specs.Written.{compact_text, has_float};
+ghost use Rattle.mesh_records.specs.Config.{config_of};
+ghost use Rattle.mesh_records.specs.Identity.{identity_of};
+ghost use Rattle.mesh_records.specs.Judgement.{judged, tree_of};
+ghost use Rattle.mesh_records.specs.Labels.{IsLabel, label_text};
+ghost use Rattle.mesh_records.specs.Trees.{config_tree};
+
+use crate::records::{ClusterConfig, IdentityRecord, Label};
+use mesh_base::Memory;
+use serde_json::{Value, json};
+use std::alloc::{AllocError, Global};
+
+/// The compact text of a value.
+fn written(alloc: Global, value: &Value) -> Result<Vec<u8>, Memory>
+    ensures text { IfOk result (λ v. has_float (view value.now) ≡ false → v.items ≡ compact_text (view value.now)) }
+    ensures reads_back { IfOk result (λ v. depth (view value.now) ≤ 127 → tree_of v.items ≡ Some (view value.now)) }
+{
+    let bytes = value.to_vec(alloc)?;
+    Ok(bytes)
+}
+
+#[tactic(auto, unfolding(crate::specs::Trees::config_tree))]
+fn config_value(alloc: Global, config: &ClusterConfig) -> Result<Value, AllocError>
+    ensures tree { IfOk result (λ v. view v ≡ config_tree config.now) }
+    ensures fits { IfOk result (λ _. (config.now.id < 2 ^ 32) × (0 < config.now.max_connected) × (config.now.max_connected < 2 ^ 32)) }
+{
+    json!(in alloc; {
+        "capabilities": {
+            "cached": config.cached,
+            "maxConnectedClusters": config.max_connected,
+            "syncedCanaries": config.synced_canaries
+        },
+        "id": config.id
+    })
+}
+
+/// Writes a cluster's config, which `read_config` reads back.
+pub fn write_config(alloc: Global, config: &ClusterConfig) -> Result<Vec<u8>, Memory>
+    ensures text { IfOk result (λ v. v.items ≡ compact_text (config_tree config.now)) }
+    ensures reads_back { IfOk result (λ v. judged config_of v.items ≡ Ok config.now) }
+{
+    let value = config_value(alloc, config)?;
+    let bytes = written(alloc, &value)?;
+    Ok(bytes)
+}
+
+fn push_label(text: &mut Vec<u8>, label: &Label) -> Result<(), Memory>
+    ensures written { OnOk result (text.new.items ≡ text.old.items ++ label_text label.now) }
+    ensures label { OnOk result (IsLabel label.now) }
+{
+    text.extend_from_slice(label.source.as_slice())?;
+    text.push(b':')?;
+    text.extend_from_slice(label.key.as_slice())?;
+    text.push(b'=')?;
+    text.extend_from_slice(label.value.as_slice())?;
+    text.push(b';')?;
+    Ok(())
+}
+
+fn labels_text(alloc: Global, labels: &[Label]) -> Result<Vec<u8>, Memory>
+    ensures text { IfOk result (λ v. v.items ≡ flat_map label_text labels.now) }
+    ensures labels { IfOk result (λ _. All IsLabel labels.now) }
+{
+    let mut text = Vec::new(alloc);
+    for label in labels {
+        push_label(&mut text, label)?;
+    }
+    Ok(text)
+}
+
+/// Writes an identity as the text of its labels, which `read_identity` reads back.
+pub fn write_identity(alloc: Global, identity: &IdentityRecord) -> Result<Vec<u8>, Memory>
+    ensures text { IfOk result (λ v. v.items ≡ flat_map label_text identity.now.labels) }
+    ensures reads_back { IfOk result (λ v. identity_of v.items ≡ Ok identity.now) }
+{
+    let text = labels_text(alloc, identity.labels.as_slice())?;
+    Ok(text)
+}

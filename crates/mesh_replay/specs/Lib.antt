@@ -1,0 +1,13 @@
+pub mod Beside
+pub mod Block
+pub mod Checks
+pub mod Goes
+pub mod Keys
+pub mod Language
+pub mod Lines
+pub mod Listed
+pub mod Merge
+pub mod Program
+pub mod Sources
+pub mod Split
+pub mod World

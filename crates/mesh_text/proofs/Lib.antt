@@ -1,0 +1,10 @@
+pub mod Decimals
+pub mod NameGrammar
+pub mod EscapedWords
+pub mod AddressNumbers
+pub mod Ipv4Texts
+pub mod Ipv6Fields
+pub mod Ipv6Gaps
+pub mod Ipv6Texts
+pub mod AddressTexts
+pub mod CallerLemmas

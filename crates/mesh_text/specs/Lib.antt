@@ -1,0 +1,5 @@
+pub mod Numbers
+pub mod Names
+pub mod Escapes
+pub mod Addresses
+pub mod Laws

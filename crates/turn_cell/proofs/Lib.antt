@@ -1,0 +1,4 @@
+pub mod Lists
+pub mod TurnSteps
+pub mod Sharing
+pub mod Passes
