@@ -4,12 +4,10 @@ ghost use Rattle.memory_store.specs.Formed.{CommitsKeepForm, ReadingsAgree};
 /// all changes make.
 pub fn readings_agree()
     ensures { ReadingsAgree }
-{
-}
+{}
 
 /// A transaction of distinct keys adds a revision that changes something, no key twice, and deletes
 /// live keys alone, or none.
 pub fn commits_keep_form()
     ensures { CommitsKeepForm }
-{
-}
+{}

@@ -29,11 +29,7 @@ fn commit(store: &mut MemoryStore, alloc: Global, op: Op) -> Result<u64, StoreFa
     store.commit(alloc, &[op])
 }
 
-fn list(
-    store: &mut MemoryStore,
-    alloc: Global,
-    prefixes: &[&[u8]],
-) -> Result<Listing, StoreFault> {
+fn list(store: &mut MemoryStore, alloc: Global, prefixes: &[&[u8]]) -> Result<Listing, StoreFault> {
     let mut ranges = Items::new(alloc);
     for prefix in prefixes {
         ranges.push(Range::Prefix(Bytes::from_slice(alloc, prefix)?))?;
@@ -55,7 +51,10 @@ fn deleting_an_absent_key_adds_no_revision(rt: HostRuntime) -> Result<(), Fail> 
     let alloc = rt.alloc();
     let mut store = MemoryStore::new(alloc);
     assert_eq!(rt; commit(&mut store, alloc, delete(alloc, b"a")?), Ok(1));
-    assert_eq!(rt; commit(&mut store, alloc, put(alloc, b"a", b"1", None)?), Ok(2));
+    assert_eq!(rt;
+        commit(&mut store, alloc, put(alloc, b"a", b"1", None)?),
+        Ok(2)
+    );
     assert_eq!(rt; commit(&mut store, alloc, delete(alloc, b"a")?), Ok(3));
     assert_eq!(rt; commit(&mut store, alloc, delete(alloc, b"a")?), Ok(3));
     Ok(())
@@ -65,8 +64,14 @@ fn deleting_an_absent_key_adds_no_revision(rt: HostRuntime) -> Result<(), Fail> 
 fn a_put_of_an_equal_value_raises_the_revision(rt: HostRuntime) -> Result<(), Fail> {
     let alloc = rt.alloc();
     let mut store = MemoryStore::new(alloc);
-    assert_eq!(rt; commit(&mut store, alloc, put(alloc, b"a", b"1", None)?), Ok(2));
-    assert_eq!(rt; commit(&mut store, alloc, put(alloc, b"a", b"1", None)?), Ok(3));
+    assert_eq!(rt;
+        commit(&mut store, alloc, put(alloc, b"a", b"1", None)?),
+        Ok(2)
+    );
+    assert_eq!(rt;
+        commit(&mut store, alloc, put(alloc, b"a", b"1", None)?),
+        Ok(3)
+    );
     Ok(())
 }
 
@@ -75,7 +80,10 @@ fn the_changes_of_a_transaction_are_one_revision(rt: HostRuntime) -> Result<(), 
     let alloc = rt.alloc();
     let mut store = MemoryStore::new(alloc);
     let ops = [put(alloc, b"b", b"2", None)?, delete(alloc, b"a")?];
-    assert_eq!(rt; commit(&mut store, alloc, put(alloc, b"a", b"1", None)?), Ok(2));
+    assert_eq!(rt;
+        commit(&mut store, alloc, put(alloc, b"a", b"1", None)?),
+        Ok(2)
+    );
     assert_eq!(rt; store.commit_as(alloc, 7, &ops), Ok(3));
     let listing = list(&mut store, alloc, &[b""])?;
     assert_eq!(rt; listing.at, 3);

@@ -1,3 +1,4 @@
+pub mod AddressBack
 pub mod ConfigBack
 pub mod Cuts
 pub mod Fronts

@@ -1,6 +1,6 @@
 -- What is written for a record: its JSON tree, with the members in byte order and absent fields left out.
 use Rattle.std.specs.Prelude.{ℕ, List, codes, map, Option, None, Some, option_map}
-use Rattle.serde_json.specs.Data.{Data, boolean, number, unsigned, string, array, object, Items, Members, no_members, member}
+use Rattle.serde_json.specs.Data.{Data, boolean, number, unsigned, string, array, object, Items, Members, no_members, member, put}
 use Rattle.serde_json.specs.View.{items_of}
 use Rattle.mesh_text.specs.declared.ip.Ip.{Ip}
 use Rattle.mesh_text.specs.Addresses.{address_text}
@@ -35,14 +35,14 @@ node_tree n = object
     (member (codes "Name") (string n.name) no_members))))
 
 -- the member is left out where there is nothing to say
-abbrev pub some_member : List ℕ → Option Data → Members → Members
-some_member name None others = others
-some_member name (Some x) others = member name x others
+abbrev pub put_some : List ℕ → Option Data → Members → Members
+put_some name None members = members
+put_some name (Some x) members = put name x members
 
 unfoldable pub address_tree : Address → Data
 address_tree a = object
-    (some_member (codes "HostIP") (option_map address_string a.host)
-    (member (codes "ID") (whole a.id)
-    (member (codes "IP") (address_string a.ip)
-    (some_member (codes "K8sNamespace") (option_map string a.namespace)
-    (some_member (codes "K8sPodName") (option_map string a.pod) no_members)))))
+    (put_some (codes "HostIP") (option_map address_string a.host)
+    (put (codes "ID") (whole a.id)
+    (put (codes "IP") (address_string a.ip)
+    (put_some (codes "K8sNamespace") (option_map string a.namespace)
+    (put_some (codes "K8sPodName") (option_map string a.pod) no_members)))))

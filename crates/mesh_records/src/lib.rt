@@ -1,8 +1,9 @@
-//! The values under the keys of a cluster mesh: JSON that is read by a profile of fields.
+//! The values under the keys of a cluster mesh, read by a profile of fields and written again.
 //!
 //! `records` has what a value says, `fault` why it is refused, `tree` the step from bytes to JSON,
-//! `forms` what a single member must be, and `config` and `node` the fields of a cluster's settings
-//! and of a node.
+//! and `forms` what a single member must be. `config`, `node`, `address` and `service` have the
+//! fields of one kind of value each, `identity` the labels of an identity, and `read` picks the
+//! kind. `trees` builds the JSON that is written, and `write` has its bytes.
 //! It knows nothing of keys, stores or which cluster a value belongs to.
 #![tactic(auto)]
 
@@ -18,6 +19,7 @@ mod service;
 #[cfg(test)]
 mod tests;
 mod tree;
+mod trees;
 mod write;
 
 pub use address::read_address_record;
@@ -30,4 +32,4 @@ pub use records::{
     AddressRecord, Backend, ClusterConfig, IdentityRecord, Label, Node, Record, ServiceRecord,
 };
 pub use service::read_service;
-pub use write::{write_config, write_identity};
+pub use write::{write_address_record, write_config, write_identity};

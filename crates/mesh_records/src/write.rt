@@ -7,9 +7,11 @@ ghost use Rattle.mesh_records.specs.Config.{config_of};
 ghost use Rattle.mesh_records.specs.Identity.{identity_of};
 ghost use Rattle.mesh_records.specs.Judgement.{judged, tree_of};
 ghost use Rattle.mesh_records.specs.Labels.{IsLabel, label_text};
-ghost use Rattle.mesh_records.specs.Trees.{config_tree};
+ghost use Rattle.mesh_records.specs.Address.{address_record_of};
+ghost use Rattle.mesh_records.specs.Trees.{address_tree, config_tree};
 
-use crate::records::{ClusterConfig, IdentityRecord, Label};
+use crate::records::{AddressRecord, ClusterConfig, IdentityRecord, Label};
+use crate::trees::address_value;
 use mesh_base::Memory;
 use serde_json::{Value, json};
 use std::alloc::{AllocError, Global};
@@ -79,4 +81,14 @@ pub fn write_identity(alloc: Global, identity: &IdentityRecord) -> Result<Vec<u8
 {
     let text = labels_text(alloc, identity.labels.as_slice())?;
     Ok(text)
+}
+
+/// Writes an address record, which reads back; what it does not have is left out.
+pub fn write_address_record(alloc: Global, address: &AddressRecord) -> Result<Vec<u8>, Memory>
+    ensures text { IfOk result (λ v. v.items ≡ compact_text (address_tree address.now)) }
+    ensures reads_back { IfOk result (λ v. judged address_record_of v.items ≡ Ok address.now) }
+{
+    let value = address_value(alloc, address)?;
+    let bytes = written(alloc, &value)?;
+    Ok(bytes)
 }

@@ -1,13 +1,13 @@
 -- One call on one of the stores.
-use Rattle.std.proofs.Common.{◌≡◌, ◌≢◌, ℕ, ◌+◌, ◌<◌, ◌≤◌, ◌⊎◌, List, [], ◌∷◌, ◌++◌, length, map, get_or, refl, ap, sym, ◌∙◌, subst, arith, Bool, true, inl, inr}
+use Rattle.std.proofs.Common.{◌≡◌, ◌≢◌, ℕ, ◌+◌, ◌<◌, ◌≤◌, ◌⊎◌, List, [], ◌∷◌, length, map, get_or, refl, ap, sym, ◌∙◌, subst, arith, true, inl, inr}
 use Rattle.std.proofs.Math.ListN.{set}
 use Rattle.std.proofs.Math.Seq.{map-set_same}
 use Rattle.std.proofs.lemmas.List.{map-set, get_or-set_same, get_or-set_other, get_or-map, length-map}
 use Rattle.std.proofs.lemmas.Bool.Decides.{eqb_tells}
 use Rattle.store_api.specs.Contents.{Contents, empty_contents, unchanged}
 use Rattle.store_api.specs.Meaning.{Meaning, Keeps, Makes, MayMake, Counts, CountsNot, Finds, Call}
-use Rattle.mesh_replay.specs.Goes.{Goes, Leads, Tallies, IsOpen, occurrences, done}
-use Rattle.mesh_replay.specs.World.{World, Outcome, Made, LostBefore, LostAfter, call, with_effect}
+use Rattle.mesh_replay.specs.Goes.{Leads, Tallies, IsOpen, occurrences}
+use Rattle.mesh_replay.specs.World.{World, Made, LostBefore, LostAfter, call, with_effect}
 
 module _ {S : Type 0} (meaning : S → Meaning) (stores : List S) (place : ℕ) (d new : S) (lt : place < length stores) where
   abbrev old : S

@@ -2,6 +2,7 @@ pub mod Calls
 pub mod LineOrder
 pub mod Runs
 pub mod Shown
+pub mod SightedExamples
 pub mod Sorted
 pub mod Splits
 pub mod StreamLemmas

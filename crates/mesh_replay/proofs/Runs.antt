@@ -1,8 +1,7 @@
 -- How a run goes on, step by step.
-use Rattle.std.proofs.Common.{◌≡◌, ℕ, ◌+◌, ◌<◌, ◌≤◌, List, [], ◌∷◌, ◌++◌, length, map, get_or, drop, refl, ap, sym, ◌∙◌, arith, append_assoc, add-one}
-use Rattle.store_api.specs.Contents.{Contents}
+use Rattle.std.proofs.Common.{◌≡◌, List, [], ◌∷◌, ◌++◌, map, refl, ap, ◌∙◌, arith, append_assoc}
 use Rattle.store_api.specs.Meaning.{Meaning}
-use Rattle.mesh_replay.specs.Goes.{Goes, Leads, Tallies, Step, done, occurrences}
+use Rattle.mesh_replay.specs.Goes.{Goes, Leads, Step}
 use Rattle.mesh_replay.specs.World.{World, Outcome, Action, Mesh, act, act_all}
 
 module _ {S : Type 0} (meaning : S → Meaning) where

@@ -1,11 +1,10 @@
 -- A report on one remote whose listing the reader has sighted.
-use Rattle.std.proofs.Common.{◌≡◌, ℕ, zero, suc, ◌+◌, ◌<◌, ◌≤◌, List, [], ◌∷◌, ◌++◌, ◌||◌, ◌&&◌, ◌==◌, not, Bool, true, false, cond, map, length, Option, None, Some, leb, refl, ap, sym, ◌∙◌, arith, append_assoc, codes}
+use Rattle.std.proofs.Common.{◌≡◌, ℕ, zero, suc, ◌<◌, List, [], ◌∷◌, ◌++◌, ◌||◌, ◌&&◌, ◌==◌, not, Bool, true, false, cond, map, length, Option, None, Some, leb, refl, ap, sym, ◌∙◌, arith, append_assoc, codes}
 use Rattle.std.proofs.Math.Path.{fun_ext}
 use Rattle.std.proofs.lemmas.Bool.{le-leb, lt-leb}
 use Rattle.std.proofs.lemmas.List.{append-nil}
 use Rattle.std.proofs.lemmas.Map.Lookups.{exact_bytes}
 use Rattle.std.specs.Ordering.{nat_cmp, eq_by_cmp, is_lt, ordering_reverse}
-use Rattle.std.specs.declared.cmp.Ordering.{Ordering}
 use Rattle.std.specs.declared.cmp.Ordering.TheVariants.{Less, Equal, Greater}
 use Rattle.std.specs.Cmp.Lexicographic.{slice_cmp, nat_list_cmp_total}
 use Rattle.std.specs.Cmp.{eq_by_cmp_equiv}
@@ -15,7 +14,7 @@ use Rattle.std.specs.Option.{option_and_then}
 use Rattle.std.specs.FinMap as map1
 use Rattle.std.specs.FinMap.{find, same_map, slice_cmp-IsAntisymmetric, nat_cmp-IsAntisymmetric, get-empty, get-insert, get-remove, get-retain_keys, get-from_entries, get-entries}
 use Rattle.mesh_records.specs.Values.{Config}
-use Rattle.store_api.specs.History.{History, Pairing, Pairs, after_change, after_changes, changed_map, after_all, map_at, live_at, changes_at, entry_of, revision, in_ranges}
+use Rattle.store_api.specs.History.{History, Pairing, after_change, after_changes, changed_map, after_all, map_at, live_at, changes_at, entry_of, revision}
 use Rattle.store_api.specs.Followed.{Followed, in_at}
 use Rattle.store_api.specs.Sets.{in_set, seen_set}
 use Rattle.store_api.specs.Spans.{Record, Span, some_from, speaks, unread}
@@ -24,9 +23,9 @@ use Rattle.store_api.specs.declared.change.Change.TheVariants as change
 use Rattle.store_api.specs.declared.change.Listing.{Listing}
 use Rattle.mesh_replay.specs.Block.{block, node_line, source_line}
 use Rattle.mesh_replay.specs.Checks.{is_synced, valid_config, valid_node}
-use Rattle.mesh_replay.specs.Keys.{config_key, state_ranges}
+use Rattle.mesh_replay.specs.Keys.{config_key}
 use Rattle.mesh_replay.specs.Lines.{text_of_rows}
-use Rattle.mesh_replay.specs.Listed.{Entries, Sees, alone, listed, listed_config, listed_rows, rows_under, shown_block, source_text}
+use Rattle.mesh_replay.specs.Listed.{Entries, Sees, alone, listed, listed_rows, rows_under, shown_block, source_text}
 use Rattle.mesh_replay.specs.Merge.{NodeRow, admitted, admitted_by, config_in, is_taken, node_rows, node_rows_by, row_of}
 use Rattle.mesh_replay.specs.Sources.{Source, direct_source, state_of}
 

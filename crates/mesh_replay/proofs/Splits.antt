@@ -1,5 +1,5 @@
 -- Where the first separator stands, the list is split there.
-use Rattle.std.proofs.Common.{◌≡◌, ◌≢◌, ◌==◌, ℕ, zero, suc, ◌+◌, ◌<◌, ◌≤◌, Bool, true, false, cond, List, [], ◌∷◌, ◌++◌, length, take, drop, get_or, refl, ap, sym, ◌∙◌, arith, eq-eqb, Option, Some, None, Result, Ok, Err, bytes_eq, codes, append_assoc}
+use Rattle.std.proofs.Common.{◌≡◌, ◌==◌, ℕ, zero, suc, ◌+◌, ◌<◌, Bool, true, false, cond, List, [], ◌∷◌, ◌++◌, length, take, drop, get_or, refl, ap, sym, ◌∙◌, arith, eq-eqb, Option, Some, None, Ok, Err, bytes_eq, codes, append_assoc}
 use Rattle.std.proofs.lemmas.Grind.{common_steps}
 use Rattle.mesh_replay.specs.Split.{split, onto}
 use Rattle.mesh_replay.specs.Language.{Puts, first_line, ends_at, report_at, put_or_turn, puts_at, put_said, turn_line, with_puts, local_words, remote_words, pair_words}

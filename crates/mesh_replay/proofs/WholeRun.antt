@@ -1,5 +1,5 @@
 -- A whole scenario: its puts, its turn, its report.
-use Rattle.std.proofs.Common.{◌≡◌, ℕ, ◌+◌, ◌<◌, List, [], ◌∷◌, ◌++◌, length, map, get_or, drop, Option, refl, ap, sym, ◌∙◌, subst, arith, add-one}
+use Rattle.std.proofs.Common.{◌≡◌, ℕ, ◌+◌, ◌<◌, List, [], ◌∷◌, ◌++◌, length, map, get_or, drop, Option, refl, ap, sym, ◌∙◌, subst, add-one}
 use Rattle.std.proofs.Math.Seq.{drop-cons}
 use Rattle.store_api.specs.History.{entry_of}
 use Rattle.store_api.specs.Meaning.{Meaning}
@@ -11,10 +11,10 @@ use Rattle.mesh_replay.specs.Block.{block}
 use Rattle.mesh_replay.specs.Goes.{Goes, Leads, done}
 use Rattle.mesh_replay.specs.Language.{Said}
 use Rattle.mesh_replay.specs.Listed.{shown_block}
-use Rattle.mesh_replay.specs.World.{Action, Mesh, Outcome, Put, Report, Turn, World, act, act_all, actions_of, contents_at, first_world, mesh_of, put, put_of, reader_at, reported, sources_from, turn}
-use Rattle.mesh_replay.specs.Sources.{Source, direct_source}
+use Rattle.mesh_replay.specs.World.{Action, Mesh, Put, Report, Turn, World, act_all, actions_of, contents_at, first_world, mesh_of, put, put_of, reported, sources_from, turn}
+use Rattle.mesh_replay.specs.Sources.{direct_source}
 use Rattle.store_api.specs.Spans.{Record}
-use Rattle.mesh_replay.proofs.Runs.{Goes-act, Goes-none, Goes-trans, Goes-weaken, Leads-none}
+use Rattle.mesh_replay.proofs.Runs.{Goes-act, Goes-trans, Leads-none}
 use Rattle.mesh_replay.proofs.Shown.{shown}
 
 pub Beside-refl : (w : World) → Beside w w
@@ -22,6 +22,11 @@ Beside-refl w = record { readers = refl; reports = refl; text = refl }
 
 pub Beside-trans : (u v w : World) → Beside u v → Beside v w → Beside u w
 Beside-trans u v w a b = record { readers = b.readers ∙ a.readers; reports = b.reports ∙ a.reports; text = b.text ∙ a.text }
+
+-- the text, by the parts that the code had at hand
+pub shown_text : (text before : List ℕ) (number local : ℕ) (name cluster : List ℕ) (agent : Option Listing) → text ≡ before ++ shown_block 1 number name agent → before ≡ [] → number ≡ local → name ≡ cluster → text ≡ shown_block 1 local cluster agent
+shown_text text before number local name cluster agent is empty number_is name_is =
+    is ∙ ap (λ (l : List ℕ). l ++ shown_block 1 number name agent) empty ∙ ap (λ (n : ℕ). shown_block 1 n name agent) number_is ∙ ap (λ (n : List ℕ). shown_block 1 local n agent) name_is
 
 module _ {S : Type 0} (meaning : S → Meaning) where
   -- the next put of those that are left

@@ -1,6 +1,5 @@
 -- That stores and calls went the way that a world says.
-use Rattle.std.specs.Prelude.{◌≡◌, ℕ, ◌+◌, ◌≤◌, ◌==◌, List, [], ◌∷◌, ◌++◌, map, if◌then◌else◌, slice_index, Bool, true}
-use Rattle.store_api.specs.Contents.{Contents}
+use Rattle.std.specs.Prelude.{◌≡◌, ℕ, ◌+◌, ◌≤◌, ◌==◌, List, [], ◌∷◌, ◌++◌, map, if◌then◌else◌, slice_index, true}
 use Rattle.store_api.specs.Meaning.{Meaning}
 use Rattle.mesh_replay.specs.World.{World, Outcome}
 

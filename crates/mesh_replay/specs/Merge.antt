@@ -1,5 +1,5 @@
 -- The rows of a report: a filter and a union over the sources' records.
-use Rattle.std.specs.Prelude.{ℕ, List, [], ◌∷◌, ◌++◌, ◌&&◌, ◌||◌, ◌==◌, Bool, false, if◌then◌else◌, Option, None, Some, option_and_then, flat_map}
+use Rattle.std.specs.Prelude.{ℕ, List, [], ◌∷◌, ◌&&◌, ◌||◌, ◌==◌, Bool, false, if◌then◌else◌, Option, None, Some, option_and_then, flat_map}
 use Rattle.std.specs.Cmp.Lexicographic.{slice_cmp}
 use Rattle.std.specs.FinMap.{entries, get}
 use Rattle.std.specs.List.{list_any}

@@ -1,11 +1,11 @@
 -- What the program does with its words, its input, its output and the stores.
-use Rattle.std.specs.Prelude.{◌≡◌, ℕ, ◌+◌, ◌≤◌, ◌<◌, ◌⊎◌, List, [], ◌∷◌, ◌++◌, map, length, Option, Result, Ok, Err, codes, Bool, false, bytes_eq}
+use Rattle.std.specs.Prelude.{◌≡◌, ℕ, ◌≤◌, ◌<◌, List, [], ◌∷◌, ◌++◌, map, length, Option, Ok, Err, codes, Bool, false, bytes_eq}
 use Rattle.std.specs.Fmt.{decimal}
 use Rattle.store_api.specs.Meaning.{Meaning}
 use Rattle.store_api.specs.Streams.{HoldsMore}
 use Rattle.mesh_replay.specs.Goes.{Leads}
 use Rattle.mesh_replay.specs.Language.{Said, scenario_of}
-use Rattle.mesh_replay.specs.World.{World, act_all, actions_of, first_world, mesh_of}
+use Rattle.mesh_replay.specs.World.{act_all, actions_of, first_world, mesh_of}
 use Rattle.mesh_replay.specs.declared.status.LineKind.{LineKind}
 use Rattle.mesh_replay.specs.declared.status.LineKind.TheVariants as kind
 

@@ -1,4 +1,4 @@
-use Rattle.std.proofs.Common.{◌∙◌, sym, ◌≡◌, bytes_eq, codes, true, false, length, arith}
+use Rattle.std.proofs.Common.{sym, ◌≡◌, bytes_eq, codes, true, arith}
 use Rattle.std.proofs.lemmas.Grind.{common_steps}
 use Rattle.mesh_replay.specs.Split.{split}
 use Rattle.mesh_replay.proofs.Splits.{report_is, report_is_not_last}

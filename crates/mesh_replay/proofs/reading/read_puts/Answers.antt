@@ -1,4 +1,4 @@
-use Rattle.std.proofs.Common.{◌≡◌, ◌∙◌, ◌++◌, ◌∷◌, [], sym, ap, subst, cond, ◌+◌, List, ℕ, map, length, arith, refl, Bool, true, false, bytes_eq, codes, Ok, Err, Some, None}
+use Rattle.std.proofs.Common.{◌≡◌, ◌∙◌, ◌∷◌, [], sym, ap, cond, ◌+◌, List, ℕ, map, arith, refl, bytes_eq, Ok, Err, Some, None}
 use Rattle.std.proofs.lemmas.List.{map-append, append-nil}
 use Rattle.store_api.specs.History.{entry_of}
 use Rattle.store_api.specs.declared.change.Pair.{Pair}

@@ -1,4 +1,4 @@
-use Rattle.std.proofs.Common.{◌∙◌, sym, ap, List, ℕ}
+use Rattle.std.proofs.Common.{◌∙◌, sym, ap}
 use Rattle.mesh_replay.specs.Language.{first_line}
 use Rattle.mesh_replay.proofs.Splits.{first_line-split}
 use Rattle.mesh_replay.proofs.splitting.next_line.Goals as goal

@@ -1,6 +1,5 @@
-use Rattle.std.proofs.Common.{◌≡◌, ◌∷◌, [], ◌<◌, length, ℕ, List, arith, take, drop}
+use Rattle.std.proofs.Common.{arith}
 use Rattle.std.proofs.lemmas.Grind.{common_steps}
-use Rattle.mesh_replay.specs.Split.{split}
 use Rattle.mesh_replay.proofs.Splits.{split_first, split_whole}
 use Rattle.mesh_replay.proofs.splitting.piece.Goals as goal
 

@@ -1,14 +1,14 @@
-use Rattle.std.proofs.Common.{refl, ap, sym, subst, ◌≡◌, ◌∙◌, ◌∷◌, [], ℕ, List, map, get_or, Some, None, true}
+use Rattle.std.proofs.Common.{refl, subst, ◌≡◌, ◌∙◌, ◌∷◌, [], List, get_or, Some, None, true}
 use Rattle.std.proofs.lemmas.List.Elements.{All-get_or}
 use Rattle.store_api.specs.Contents.{Contents, IsListing, empty_contents}
-use Rattle.store_api.specs.History.{revision, listing_at, entry_of}
-use Rattle.store_api.specs.Advance.{closed, turned}
-use Rattle.store_api.specs.Spans.{Record, unread}
+use Rattle.store_api.specs.History.{revision}
+use Rattle.store_api.specs.Advance.{closed}
+use Rattle.store_api.specs.Spans.{unread}
 use Rattle.store_api.specs.declared.change.Range.{Range}
 use Rattle.mesh_replay.specs.Beside.{Turned}
 use Rattle.mesh_replay.specs.Goes.{IsOpen}
 use Rattle.mesh_replay.specs.Keys.{state_ranges}
-use Rattle.mesh_replay.specs.World.{World, contents_at, reading, turn_made}
+use Rattle.mesh_replay.specs.World.{reading, turn_made}
 use Rattle.mesh_replay.proofs.Calls.{found_is, read_made, read_lost}
 use Rattle.mesh_replay.proofs.steps.first_turn.Goals as goal
 

@@ -1,4 +1,4 @@
-use Rattle.std.proofs.Common.{◌≡◌, ◌++◌, ◌+◌, List, [], map, drop, refl, subst, arith}
+use Rattle.std.proofs.Common.{◌++◌, ◌+◌, List, map, drop, subst, arith}
 use Rattle.std.proofs.lemmas.List.{drop_all}
 use Rattle.store_api.specs.History.{entry_of}
 use Rattle.store_api.specs.declared.change.Pair.{Pair}
