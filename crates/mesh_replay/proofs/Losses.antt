@@ -1,5 +1,5 @@
 -- A store with lost calls of its own.
-use Rattle.std.proofs.Common.{◌≡◌, ℕ, ◌+◌, ◌<◌, ◌≤◌, [], ◌++◌, refl, sym, ap, arith, inl, inr}
+use Rattle.std.proofs.Common.{◌≡◌, ℕ, ◌+◌, [], refl, sym, ap, arith, inl, inr}
 use Rattle.std.proofs.lemmas.List.{append-nil}
 use Rattle.store_api.specs.Contents.{Contents}
 use Rattle.store_api.specs.Meaning.{Meaning, MayMake}

@@ -1,5 +1,4 @@
 // Streams over bytes that go one byte at a time.
-ghost use Rattle.std.specs.Prelude.{◌≡◌};
 
 use store_api::{BytesSink, BytesSource, Failed, Sink, Source};
 

@@ -8,7 +8,7 @@ use std::alloc::Global;
 use store_api::{Listing, Memory, Op, Ranges, Store, StoreAdmin, StoreFault};
 
 /// Whether a call is lost, and when.
-#[derive(Clone, Copy, Debug, PartialEq, Eq)]
+#[derive(Clone, Copy)]
 pub enum When {
     Pass,
     Before,

@@ -1,6 +1,4 @@
 use Rattle.std.proofs.Common.{◌≡◌, length}
-use Rattle.std.specs.List.{All}
-use Rattle.mesh_replay.specs.Goes.{IsOpen}
 use Rattle.mesh_replay.proofs.tests.lossy.lossy_stores.Given as goal
 
 abbrev pub invariant-loop-place : goal.invariant-loop-place
