@@ -232,27 +232,37 @@ fn bytes_that_come_and_go_one_by_one_give_the_same_report_up_to_the_write_that_f
     Ok(())
 }
 
-#[test]
-fn an_input_may_have_16_777_216_bytes(rt: HostRuntime) -> Result<(), Fail> {
-    let alloc = rt.alloc();
+/// The status and what is written for an input of so many newlines.
+fn replay_newlines(alloc: Global, length: usize) -> Result<(Status, Bytes), Fail> {
     let words = words(alloc, "step")?;
-    for (length, line, kind, written) in [
-        (16777216usize, 1, LineKind::Words, "line 1 words\n"),
-        (16777217, 0, LineKind::TooLong, "line 0 too_long\n"),
-    ] {
-        let bytes = vec![in alloc; b'\n'; length]?;
-        let mut source = BytesSource::new(bytes, Vec::new(alloc));
-        let mut sink = BytesSink::new(alloc, 1000, Vec::new(alloc))?;
-        let mut stores = fresh_stores(alloc)?;
-        let status = mesh_steps(
-            alloc,
-            words.as_slice(),
-            &mut source,
-            &mut sink,
-            stores.as_mut_slice(),
-        );
-        assert_eq!(rt; status, Status::Scenario { line, kind });
-        assert_eq!(rt; sink.bytes(), written.as_bytes());
-    }
+    let bytes = vec![in alloc; b'\n'; length]?;
+    let mut source = BytesSource::new(bytes, Vec::new(alloc));
+    let mut sink = BytesSink::new(alloc, 1000, Vec::new(alloc))?;
+    let mut stores = fresh_stores(alloc)?;
+    let status = mesh_steps(
+        alloc,
+        words.as_slice(),
+        &mut source,
+        &mut sink,
+        stores.as_mut_slice(),
+    );
+    Ok((status, Bytes::from_slice(alloc, sink.bytes())?))
+}
+
+#[test]
+fn an_input_of_16_777_216_bytes_is_refused_by_its_first_line(rt: HostRuntime) -> Result<(), Fail> {
+    let (status, written) = replay_newlines(rt.alloc(), 16777216)?;
+    let kind = LineKind::Words;
+    assert_eq!(rt; status, Status::Scenario { line: 1, kind });
+    assert_eq!(rt; written.as_slice(), b"line 1 words\n".as_slice());
+    Ok(())
+}
+
+#[test]
+fn an_input_of_16_777_217_bytes_is_too_long(rt: HostRuntime) -> Result<(), Fail> {
+    let (status, written) = replay_newlines(rt.alloc(), 16777217)?;
+    let kind = LineKind::TooLong;
+    assert_eq!(rt; status, Status::Scenario { line: 0, kind });
+    assert_eq!(rt; written.as_slice(), b"line 0 too_long\n".as_slice());
     Ok(())
 }
