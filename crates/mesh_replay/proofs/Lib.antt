@@ -1,5 +1,6 @@
 pub mod Calls
 pub mod LineOrder
+pub mod Losses
 pub mod Runs
 pub mod Shown
 pub mod SightedExamples

@@ -6,6 +6,7 @@ pub mod Keys
 pub mod Language
 pub mod Lines
 pub mod Listed
+pub mod Lossy
 pub mod Merge
 pub mod Program
 pub mod Sources
