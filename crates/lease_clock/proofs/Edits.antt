@@ -1,13 +1,13 @@
 -- What an edit of the kept leases does to the table that they stand for.
-use Rattle.std.proofs.Common.{◌≡◌, ℕ, ◌+◌, ◌<◌, ◌≤◌, ◌==◌, List, [], ◌∷◌, ◌++◌, map, filter, length, get_or, set, take, drop, suc, Option, Some, true, false, not, cond, refl, ap, ap₂, sym, ◌∙◌, subst, arith, min}
+use Rattle.std.proofs.Common.{◌≡◌, ℕ, ◌+◌, ◌≤◌, ◌==◌, List, [], ◌∷◌, ◌++◌, map, get_or, set, take, drop, suc, Some, true, ap, ap₂, sym, ◌∙◌, subst, arith}
 use Rattle.std.specs.List.{remove}
 use Rattle.std.proofs.lemmas.List.{map-set, map-append, take-map, drop-map, get_or-map, length-map, map_push}
 use Rattle.std.proofs.lemmas.Bool.Decides.{nat_tests}
 use Rattle.store_api.specs.Contents.{Lease, LeaseTable, is_live_lease}
 use Rattle.lease_clock.specs.declared.leases.LiveLease.{LiveLease}
 use Rattle.lease_clock.specs.Kept.{IsKept, IsPlace, lease_of, leases_of}
-use Rattle.lease_clock.specs.Lapses.{IsNumbered, deadline_at, deadline_of, kept_alive, renewed, revoked}
-use Rattle.lease_clock.proofs.Numbers.{moved, gone, none_gone, found, deadline_moved, numbered_set, numbered_remove, numbered_push, before_set, before_remove, before_push, before_earlier}
+use Rattle.lease_clock.specs.Lapses.{deadline_at, deadline_of, kept_alive, renewed, revoked}
+use Rattle.lease_clock.proofs.Numbers.{moved, gone, found, deadline_moved, numbered_set, numbered_remove, numbered_push, before_set, before_remove, before_push, before_earlier}
 
 pub map-remove : (items : List LiveLease) (i : ℕ) → leases_of (remove items i) ≡ remove (leases_of items) i
 map-remove items i = map-append lease_of (take i items) (drop (suc i) items) ∙ ap₂ ◌++◌ (sym (take-map lease_of i items)) (sym (drop-map lease_of (suc i) items))

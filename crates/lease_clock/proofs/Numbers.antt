@@ -1,9 +1,7 @@
 -- What holds of leases in order of their numbers, and what an edit at one place does to them.
-use Rattle.std.proofs.Common.{◌≡◌, ℕ, zero, suc, ◌+◌, ◌<◌, ◌≤◌, ◌==◌, List, [], ◌∷◌, ◌++◌, map, filter, length, get_or, set, Bool, true, false, not, cond, ◌||◌, Option, Some, refl, ap, sym, ◌∙◌, subst, arith}
-use Rattle.std.specs.List.{remove, find, AllByRecursion}
+use Rattle.std.proofs.Common.{◌≡◌, ℕ, zero, suc, ◌<◌, ◌≤◌, ◌==◌, List, [], ◌∷◌, ◌++◌, map, filter, length, get_or, set, Bool, true, false, not, cond, ◌||◌, Some, refl, ap, sym, subst, arith}
+use Rattle.std.specs.List.{remove, find}
 use Rattle.std.specs.Option.{option_map}
-use Rattle.std.specs.List.Sorted.{IsNonDecreasingBy}
-use Rattle.std.specs.Ordering.{nat_cmp, ordering_index}
 use Rattle.std.proofs.lemmas.Bool.Decides.{nat_tests}
 use Rattle.store_api.specs.Contents.{Lease, is_live_lease}
 use Rattle.lease_clock.specs.Kept.{IsBefore}

@@ -1,10 +1,10 @@
 -- Where a binary search by number ends.
-use Rattle.std.proofs.Common.{◌≡◌, ℕ, zero, suc, ◌+◌, ◌<◌, ◌≤◌, ◌==◌, ◌≢◌, Option, None, Some, is_some, inl, inr, List, [], ◌∷◌, map, length, get_or, true, false, Result, Ok, Err, refl, ap, sym, ◌∙◌, arith}
+use Rattle.std.proofs.Common.{◌≡◌, ℕ, suc, ◌<◌, ◌≤◌, ◌==◌, ◌≢◌, Option, None, Some, is_some, inl, inr, List, [], ◌∷◌, length, get_or, false, Result, Ok, Err, refl, ap, sym, ◌∙◌, arith}
 use Rattle.std.specs.List.Sorted.{IsSearchInRange, IsBinarySearchResult, IsNonDecreasingBy}
 use Rattle.std.specs.Ordering.{nat_cmp, ordering_index}
 use Rattle.std.specs.Result.{result_ok}
 use Rattle.std.proofs.lemmas.Cmp.{ranked}
-use Rattle.std.proofs.lemmas.List.{get_or-map, length-map, get_or_default}
+use Rattle.std.proofs.lemmas.List.{get_or-map, length-map}
 use Rattle.std.proofs.lemmas.Bool.{cases_lt}
 use Rattle.std.proofs.lemmas.Bool.Decides.{nat_tests}
 use Rattle.store_api.specs.Contents.{Lease, is_live_lease}
@@ -43,12 +43,12 @@ module _ (items : List LiveLease) (last n : ℕ) (numbered : IsNumbered 0 (lease
   searched (Err at) in_range parted =
       let parts = parted comparisons_rise in
       none_at n (leases_of items) (lease_of spare) (λ j lt e.
-          let within : j < length items = omega (arith, length-map items lease_of, lt) in
-          let here = at_view items j spare (lease_of spare) within in
-          elim (cases_lt j at) [
-            | inl below ↦ let less = ranked _ n _ (sym (parts.0 j spare (omega arith) below)) in omega (arith, less, here, e)
-            | inr after ↦ let more = ranked _ n _ (sym (parts.1 j spare after within)) in omega (arith, more, here, e)
-          ])
+      let within : j < length items = omega (arith, length-map items lease_of, lt) in
+      let here = at_view items j spare (lease_of spare) within in
+      elim (cases_lt j at) [
+        | inl below ↦ let less = ranked _ n _ (sym (parts.0 j spare (omega arith) below)) in omega (arith, less, here, e)
+        | inr after ↦ let more = ranked _ n _ (sym (parts.1 j spare after within)) in omega (arith, more, here, e)
+      ])
 
 -- a number has a place exactly where it is live
 pub lives : (live : List Lease) (n : ℕ) (o : Option ℕ) → IsPlace live n o → is_some o ≡ is_live_lease live n

@@ -1,20 +1,20 @@
 -- The due leases in order of their ranks.
-use Rattle.std.proofs.Common.{◌≡◌, ℕ, zero, suc, ◌+◌, ◌<◌, ◌≤◌, List, [], ◌∷◌, map, filter, length, Bool, true, false, cond, ◌||◌, ◌&&◌, T, Option, Some, None, is_some, IsTrue, refl, ap, sym, ◌∙◌, subst, arith}
+use Rattle.std.proofs.Common.{◌≡◌, ℕ, ◌<◌, ◌≤◌, List, [], ◌∷◌, map, filter, length, Bool, true, false, cond, ◌||◌, ◌&&◌, T, Option, Some, is_some, IsTrue, refl, ap, sym, ◌∙◌, arith}
 use Rattle.std.specs.List.{list_any, AllByRecursion}
 use Rattle.std.specs.List.Sorted.{IsStrictlySortedBy}
-use Rattle.std.specs.Ordering.{nat_cmp, ordering_then, eq_by_cmp, is_eq, is_lt}
+use Rattle.std.specs.Ordering.{nat_cmp, eq_by_cmp, is_eq, is_lt}
 use Rattle.std.specs.declared.cmp.Ordering.{Ordering}
 use Rattle.std.specs.declared.cmp.Ordering.TheVariants.{Less, Equal, Greater}
 use Rattle.std.specs.Cmp.{IsTotalOrder, then_total, on_total, nat_cmp_total, tied_itself, eq_by_cmp_equiv}
 use Rattle.std.specs.FinMap as finite
-use Rattle.std.specs.FinMap.{FinMap, from_entries, keys, contains_key-keys, get-from_entries, entries_sorted}
+use Rattle.std.specs.FinMap.{keys, contains_key-keys, get-from_entries, entries_sorted}
 use Rattle.std.specs.FinMap.Entries.{is_sorted, below_all, find}
-use Rattle.std.specs.BTreeSet.{BTreeSet, contains, IsOrdered}
+use Rattle.std.specs.BTreeSet.{BTreeSet, IsOrdered}
 use Rattle.std.proofs.lemmas.Map.Lookups.{exact_unsigned, exact_pairs, btree_set_from_contains}
 use Rattle.store_api.specs.Contents.{Lease, LeaseTable}
 use Rattle.lease_clock.specs.declared.leases.LiveLease.{LiveLease}
 use Rattle.lease_clock.specs.Kept.{HasRanks, due_ranks, lease_of, leases_of}
-use Rattle.lease_clock.specs.Lapses.{is_due, rank, rank_cmp, due_by_rank, due_leases}
+use Rattle.lease_clock.specs.Lapses.{is_due, rank, rank_cmp, due_by_rank, due_leases, DueInOrder}
 
 pub rank_total : IsTotalOrder rank_cmp
 rank_total = then_total (on_total (λ (r : ℕ × ℕ). r.0) nat_cmp_total) (on_total (λ (r : ℕ × ℕ). r.1) nat_cmp_total)
@@ -68,6 +68,9 @@ has_keys table q =
     ∙ ap is_some (get-from_entries rank_total (map (λ (lease : Lease). (rank lease, lease)) (filter (is_due table.now) table.live)) q)
     ∙ finds q (filter (is_due table.now) table.live)
 
+pub in_order_all : DueInOrder
+in_order_all table = record { rises = in_order (finite.entries (due_by_rank table)) (entries_sorted (due_by_rank table)); members = has_keys table }
+
 -- a set of these ranks has them in the order of the map
 pub keys_are : (table : LeaseTable) (ranks : BTreeSet (ℕ × ℕ)) → IsOrdered rank_cmp ranks → HasRanks ranks (due_ranks table.now table.live) → ranks.keys ≡ keys (due_by_rank table)
 keys_are table ranks ordered has =
@@ -97,9 +100,10 @@ due_some now (x ∷ xs) h =
 -- some lease is due exactly where the due leases are not empty
 pub is_any_due : (table : LeaseTable) (b : Bool) → b ≡ list_any (is_due table.now) table.live → (IsTrue b → 0 < length (due_leases table)) × (0 < length (due_leases table) → IsTrue b)
 is_any_due table b is =
-    let counted : length (due_leases table) ≡ length (keys (due_by_rank table)) = Rattle.std.proofs.lemmas.List.length-map (keys (due_by_rank table)) (λ (r : ℕ × ℕ). r.1) in
-    (λ yes. rw counted (some_rank (due_ranks table.now table.live) (keys (due_by_rank table)) (has_keys table) (some_due table.now table.live (sym is ∙ yes))),
-    λ some. is ∙ due_some table.now table.live (some_rank (keys (due_by_rank table)) (due_ranks table.now table.live) (λ q. sym (has_keys table q)) (rw (← counted) some)))
+    let counted : length (due_leases table) ≡ length (keys (due_by_rank table)) = Rattle.std.proofs.lemmas.List.length-map (keys (due_by_rank table)) (λ (r : ℕ × ℕ). r.1) in (
+      λ yes. rw counted (some_rank (due_ranks table.now table.live) (keys (due_by_rank table)) (has_keys table) (some_due table.now table.live (sym is ∙ yes))),
+      λ some. is ∙ due_some table.now table.live (some_rank (keys (due_by_rank table)) (due_ranks table.now table.live) (λ q. sym (has_keys table q)) (rw (← counted) some)),
+    )
 
 -- before every deadline no lease is due
 pub none_due : (now time : ℕ) (live : List Lease) → AllByRecursion (λ (lease : Lease). time ≤ lease.deadline) live → now < time → list_any (is_due now) live ≡ false

@@ -2,8 +2,10 @@
 -- Source: etcd's API, Lease service (LeaseGrant, LeaseKeepAlive, LeaseRevoke). That numbers are
 -- granted from 1 upwards, and that leases due together lapse by deadline and then number, is this
 -- project's own.
-use Rattle.std.specs.Prelude.{ℕ, ◌+◌, ◌-◌, ◌^◌, ◌==◌, ◌<◌, ◌≤◌, nat_le, min, not, List, [], ◌∷◌, ◌++◌, map, filter, find, Bool, if◌then◌else◌, Option, option_map}
-use Rattle.std.specs.Ordering.{nat_cmp, ordering_then}
+use Rattle.std.specs.Prelude.{◌≡◌, ℕ, ◌+◌, ◌-◌, ◌^◌, ◌==◌, ◌<◌, ◌≤◌, nat_le, min, not, List, [], ◌∷◌, ◌++◌, map, filter, find, Bool, if◌then◌else◌, Option, option_map}
+use Rattle.std.specs.List.{list_any}
+use Rattle.std.specs.List.Sorted.{IsStrictlySortedBy}
+use Rattle.std.specs.Ordering.{nat_cmp, ordering_then, eq_by_cmp}
 use Rattle.std.specs.declared.cmp.Ordering.{Ordering}
 use Rattle.std.specs.FinMap.{FinMap, from_entries, keys}
 use Rattle.store_api.specs.Contents.{Lease, LeaseTable}
@@ -62,6 +64,14 @@ due_by_rank table = from_entries (map (λ (lease : Lease). (rank lease, lease)) 
 -- the numbers of the due leases, in order of their ranks
 abbrev pub due_leases : LeaseTable → List ℕ
 due_leases table = map (λ (r : ℕ × ℕ). r.1) (keys (due_by_rank table))
+
+-- the ranks in that order rise strictly, and are those of the leases that are due
+pub record IsInOrder (table : LeaseTable) : Type 0 where
+  pub rises : IsStrictlySortedBy rank_cmp (keys (due_by_rank table))
+  pub members : (r : ℕ × ℕ) → list_any (eq_by_cmp rank_cmp r) (keys (due_by_rank table)) ≡ list_any (eq_by_cmp rank_cmp r) (map rank (filter (is_due table.now) table.live))
+
+abbrev pub DueInOrder : Type 0
+DueInOrder = (table : LeaseTable) → IsInOrder table
 
 -- the numbers rise from above `low`, and end at most at `last`
 abbrev pub IsNumbered : ℕ → List Lease → ℕ → Type 0

@@ -2,7 +2,7 @@ ghost use Rattle.std.specs.Prelude.{◌≡◌, ◌≤◌, ◌<◌, ◌+◌, ◌�
 ghost use Rattle.std.specs.List.{list_any};
 ghost use Rattle.store_api.specs.Contents.{is_live_lease};
 ghost use Rattle.lease_clock.specs.Kept.{HasRanks, IsBefore, IsPlace, due_ranks, leases_of};
-ghost use Rattle.lease_clock.specs.Lapses.{advanced, deadline_of, due_leases, granted, is_due, no_leases, renewed, revoked};
+ghost use Rattle.lease_clock.specs.Lapses.{IsNumbered, advanced, deadline_of, due_leases, granted, is_due, no_leases, renewed, revoked};
 
 use mesh_base::Memory;
 use std::alloc::{AllocError, Global};
@@ -62,6 +62,13 @@ impl Leases {
         ensures { result ≡ self.now.now }
     {
         self.clock
+    }
+
+    /// The live leases stand in order of their numbers, each from 1 to the last one granted.
+    pub fn is_numbered(&self)
+        ensures { IsNumbered 0 self.now.live self.now.last }
+    {
+        let _ = &self.live;
     }
 
     /// Whether the lease is live. Logarithmic in the live leases.
@@ -125,7 +132,9 @@ impl Leases {
         }
     }
 
-    /// Whether a lease is due. Constant where none is, after `advance`; takes no memory.
+    /// Whether a lease is due. Takes no memory.
+    ///
+    /// Constant right after `advance` where no lease is due, and otherwise one walk at most.
     pub fn has_due(&self) -> bool
         ensures { IsTrue result ↔ (0 < length (due_leases self.now)) }
     {

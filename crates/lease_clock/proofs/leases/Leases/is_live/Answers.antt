@@ -1,5 +1,4 @@
-use Rattle.std.proofs.Common.{ℕ, Option, None, Some, is_some, List, sym, ◌∙◌, ◌≡◌}
-use Rattle.store_api.specs.Contents.{Lease, is_live_lease}
+use Rattle.std.proofs.Common.{◌∙◌}
 use Rattle.lease_clock.proofs.Places.{lives}
 use Rattle.lease_clock.proofs.leases.Leases.is_live.Goals as goal
 

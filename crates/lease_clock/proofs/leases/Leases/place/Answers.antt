@@ -1,4 +1,4 @@
-use Rattle.std.proofs.Common.{rules, ap, subst, Option, ℕ, sym}
+use Rattle.std.proofs.Common.{rules}
 use Rattle.std.proofs.lemmas.List.Sorted.{answers_always}
 use Rattle.lease_clock.specs.declared.leases.LiveLease.{LiveLease}
 use Rattle.lease_clock.specs.Kept.{leases_of}
