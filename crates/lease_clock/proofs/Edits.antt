@@ -9,6 +9,7 @@ use Rattle.lease_clock.specs.Kept.{IsKept, IsPlace, lease_of, leases_of}
 use Rattle.lease_clock.specs.Lapses.{deadline_at, deadline_of, kept_alive, renewed, revoked}
 use Rattle.lease_clock.proofs.Numbers.{moved, gone, found, deadline_moved, numbered_set, numbered_remove, numbered_push, before_set, before_remove, before_push, before_earlier}
 
+-- a removal is one of the table's lease too
 pub map-remove : (items : List LiveLease) (i : ℕ) → leases_of (remove items i) ≡ remove (leases_of items) i
 map-remove items i = map-append lease_of (take i items) (drop (suc i) items) ∙ ap₂ ◌++◌ (sym (take-map lease_of i items)) (sym (drop-map lease_of (suc i) items))
 

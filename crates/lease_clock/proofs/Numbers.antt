@@ -7,9 +7,11 @@ use Rattle.store_api.specs.Contents.{Lease, is_live_lease}
 use Rattle.lease_clock.specs.Kept.{IsBefore}
 use Rattle.lease_clock.specs.Lapses.{IsNumbered, deadline_at, kept_alive}
 
+-- the lease has the number
 abbrev pub has : ℕ → Lease → Bool
 has n lease = lease.number == n
 
+-- when the lease ends
 abbrev pub deadline : Lease → ℕ
 deadline lease = lease.deadline
 
@@ -23,11 +25,13 @@ same : (a b : ℕ) → a ≡ b → (a == b) ≡ true
 same a b e = grind (arith, nat_tests)
 
 module _ (last : ℕ) where
+  -- each number is above where they begin
   pub above : (low i : ℕ) (live : List Lease) (d : Lease) → IsNumbered low live last → i < length live → let lease = get_or live i d in low < lease.number
   above low i [] d h lt = absurd (omega arith)
   above low zero (x ∷ xs) d h lt = h.0
   above low (suc i) (x ∷ xs) d h lt = omega (arith, h.0, above x.number i xs d h.1 (omega arith))
 
+  -- the numbers do not fall along the list
   pub rises : (low i j : ℕ) (live : List Lease) (d : Lease) → IsNumbered low live last → i ≤ j → j < length live
       → let a = get_or live i d in let b = get_or live j d in a.number ≤ b.number
   rises low i j [] d h le lt = absurd (omega arith)
@@ -36,10 +40,12 @@ module _ (last : ℕ) where
   rises low (suc i) zero (x ∷ xs) d h le lt = absurd (omega arith)
   rises low (suc i) (suc j) (x ∷ xs) d h le lt = rises x.number i j xs d h.1 (omega arith) (omega arith)
 
+  -- the same numbers rise from any lower number
   wider : (low up : ℕ) (live : List Lease) → low ≤ up → IsNumbered up live last → IsNumbered low live last
   wider low up [] le h = omega (arith, h)
   wider low up (x ∷ xs) le h = (omega (arith, h.0), h.1)
 
+  -- a push of a later number, a write that keeps the number, and a removal keep the order
   pub numbered_push : (low : ℕ) (live : List Lease) (w : Lease) → IsNumbered low live last → last < w.number → IsNumbered low (live ++ w ∷ []) w.number
   numbered_push low [] w h lt = (omega (arith, h), omega arith)
   numbered_push low (x ∷ xs) w h lt = (h.0, numbered_push x.number xs w h.1 lt)
@@ -61,6 +67,7 @@ module _ (last : ℕ) where
     absent low [] le h = refl
     absent low (x ∷ xs) le h = rw (differs_back x.number n (omega (arith, h.0))) (absent x.number xs (omega (arith, h.0)) h.1)
 
+    -- and neither a renewal nor a revocation of that number changes them
     stay : (now low : ℕ) (live : List Lease) → n ≤ low → IsNumbered low live last → map (kept_alive now n) live ≡ live
     stay now low [] le h = refl
     stay now low (x ∷ xs) le h = rw (differs_back x.number n (omega (arith, h.0))) (ap (λ (l : List Lease). x ∷ l) (stay now x.number xs (omega (arith, h.0)) h.1))
@@ -112,6 +119,7 @@ found n zero (x ∷ xs) d lt e = rw (same x.number n e) refl
 found n (suc i) (x ∷ xs) d lt e =
     elim (x.number == n) as (λ b. (b || is_live_lease xs n) ≡ true) [ true ↦ refl | false ↦ found n i xs d (omega arith) e ]
 
+-- a time before all deadlines stays so: earlier, after a push, a write or a removal
 pub before_earlier : (t u : ℕ) (live : List Lease) → t ≤ u → IsBefore u live → IsBefore t live
 before_earlier t u [] le h = tt
 before_earlier t u (x ∷ xs) le h = (omega (arith, h.0), before_earlier t u xs le h.1)

@@ -16,9 +16,11 @@ use Rattle.lease_clock.specs.declared.leases.LiveLease.{LiveLease}
 use Rattle.lease_clock.specs.Kept.{HasRanks, due_ranks, lease_of, leases_of}
 use Rattle.lease_clock.specs.Lapses.{is_due, rank, rank_cmp, due_by_rank, due_leases, DueInOrder}
 
+-- ranks are in one order
 pub rank_total : IsTotalOrder rank_cmp
 rank_total = then_total (on_total (λ (r : ℕ × ℕ). r.0) nat_cmp_total) (on_total (λ (r : ℕ × ℕ). r.1) nat_cmp_total)
 
+-- the two are one rank
 abbrev pub same_rank : ℕ × ℕ → ℕ × ℕ → Bool
 same_rank = eq_by_cmp rank_cmp
 
@@ -44,6 +46,7 @@ Ranked = List ((ℕ × ℕ) × Lease)
 abbrev ranks_of : Ranked → List (ℕ × ℕ)
 ranks_of es = map (λ (e : (ℕ × ℕ) × Lease). e.0) es
 
+-- from a test of order to the order
 all_below : (r : ℕ × ℕ) (es : Ranked) → T (below_all rank_cmp r es) → AllByRecursion (λ (q : ℕ × ℕ). rank_cmp r q ≡ Less) (ranks_of es)
 all_below r [] h = tt
 all_below r (e ∷ es) h = (less_of _ (front (is_lt (rank_cmp r e.0)) _ h), all_below r es (back (is_lt (rank_cmp r e.0)) _ h))
@@ -57,6 +60,7 @@ some-or : (b : Bool) (lease : Lease) (o : Option Lease) → is_some (cond b (Som
 some-or true lease o = refl
 some-or false lease o = refl
 
+-- a rank is found exactly where a lease has it
 finds : (q : ℕ × ℕ) (live : List Lease) → is_some (find rank_cmp q (map (λ (lease : Lease). (rank lease, lease)) live)) ≡ list_any (same_rank q) (map rank live)
 finds q [] = refl
 finds q (x ∷ xs) = some-or (same_rank q (rank x)) x _ ∙ ap (λ (b : Bool). same_rank q (rank x) || b) (finds q xs)
@@ -68,6 +72,7 @@ has_keys table q =
     ∙ ap is_some (get-from_entries rank_total (map (λ (lease : Lease). (rank lease, lease)) (filter (is_due table.now) table.live)) q)
     ∙ finds q (filter (is_due table.now) table.live)
 
+-- the law of every table
 pub in_order_all : DueInOrder
 in_order_all table = record { rises = in_order (finite.entries (due_by_rank table)) (entries_sorted (due_by_rank table)); members = has_keys table }
 
@@ -85,6 +90,7 @@ some_rank : (rs qs : List (ℕ × ℕ)) → ((q : ℕ × ℕ) → list_any (same
 some_rank [] qs alike h = absurd (omega arith)
 some_rank (r ∷ rs) qs alike h = not_empty (same_rank r) qs (alike r ∙ ap (λ (b : Bool). b || list_any (same_rank r) rs) (itself r))
 
+-- some lease passes exactly where some rank is left
 some_due : (now : ℕ) (live : List Lease) → list_any (is_due now) live ≡ true → 0 < length (due_ranks now live)
 some_due now [] h = cc
 some_due now (x ∷ xs) h =
@@ -121,6 +127,7 @@ swapped true true f = refl
 swapped true false f = refl
 swapped false b f = refl
 
+-- a step of the walk: a due lease's rank goes into the set, and another lease changes nothing
 pub one_due : (now : ℕ) (x : LiveLease) (rest : List LiveLease) (old new : Bool) (q : ℕ × ℕ) → x.deadline ≤ now
     → new ≡ cond (same_rank (rank (lease_of x)) q) true old → (new || any_rank now q rest) ≡ (old || any_rank now q (x ∷ rest))
 one_due now x rest old new q le is =

@@ -7,9 +7,11 @@ use Rattle.store_api.specs.Contents.{Lease, is_live_lease}
 use Rattle.lease_clock.specs.declared.leases.LiveLease.{LiveLease}
 use Rattle.lease_clock.specs.Lapses.{IsNumbered, is_due, rank, rank_cmp}
 
+-- a kept lease, as the table has it
 abbrev pub lease_of : LiveLease → Lease
 lease_of kept = record { number = kept.number; seconds = kept.seconds; deadline = kept.deadline }
 
+-- the kept leases, as the table has them
 abbrev pub leases_of : List LiveLease → List Lease
 leases_of live = map lease_of live
 
@@ -27,6 +29,7 @@ abbrev pub IsPlace : List Lease → ℕ → Option ℕ → Type 0
 IsPlace live number None = is_live_lease live number ≡ false
 IsPlace live number (Some at) = (at < length live) × ((d : Lease) → let lease = slice_index_or live at d in lease.number ≡ number)
 
+-- the ranks of the leases that are due at the time
 abbrev pub due_ranks : ℕ → List Lease → List (ℕ × ℕ)
 due_ranks now live = map rank (filter (is_due now) live)
 

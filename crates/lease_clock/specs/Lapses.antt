@@ -54,6 +54,7 @@ is_due now lease = nat_le lease.deadline now
 abbrev pub rank : Lease → ℕ × ℕ
 rank lease = (lease.deadline, lease.number)
 
+-- the order of ranks
 abbrev pub rank_cmp : ℕ × ℕ → ℕ × ℕ → Ordering
 rank_cmp a b = ordering_then (nat_cmp a.0 b.0) (nat_cmp a.1 b.1)
 
@@ -70,6 +71,7 @@ pub record IsInOrder (table : LeaseTable) : Type 0 where
   pub rises : IsStrictlySortedBy rank_cmp (keys (due_by_rank table))
   pub members : (r : ℕ × ℕ) → list_any (eq_by_cmp rank_cmp r) (keys (due_by_rank table)) ≡ list_any (eq_by_cmp rank_cmp r) (map rank (filter (is_due table.now) table.live))
 
+-- the order of the due leases in every table
 abbrev pub DueInOrder : Type 0
 DueInOrder = (table : LeaseTable) → IsInOrder table
 
