@@ -1,0 +1,70 @@
+-- What an edit of the kept leases does to the table that they stand for.
+use Rattle.std.proofs.Common.{◌≡◌, ℕ, ◌+◌, ◌≤◌, ◌==◌, List, [], ◌∷◌, ◌++◌, map, get_or, set, take, drop, suc, Some, true, ap, ap₂, sym, ◌∙◌, subst, arith}
+use Rattle.std.specs.List.{remove}
+use Rattle.std.proofs.lemmas.List.{map-set, map-append, take-map, drop-map, get_or-map, length-map, map_push}
+use Rattle.std.proofs.lemmas.Bool.Decides.{nat_tests}
+use Rattle.store_api.specs.Contents.{Lease, LeaseTable, is_live_lease}
+use Rattle.lease_clock.specs.declared.leases.LiveLease.{LiveLease}
+use Rattle.lease_clock.specs.Kept.{IsKept, IsPlace, lease_of, leases_of}
+use Rattle.lease_clock.specs.Lapses.{deadline_at, deadline_of, kept_alive, renewed, revoked}
+use Rattle.lease_clock.proofs.Numbers.{moved, gone, found, deadline_moved, numbered_set, numbered_remove, numbered_push, before_set, before_remove, before_push, before_earlier}
+
+-- a removal is one of the table's lease too
+pub map-remove : (items : List LiveLease) (i : ℕ) → leases_of (remove items i) ≡ remove (leases_of items) i
+map-remove items i = map-append lease_of (take i items) (drop (suc i) items) ∙ ap₂ ◌++◌ (sym (take-map lease_of i items)) (sym (drop-map lease_of (suc i) items))
+
+-- a grant keeps the form
+pub kept_push : (items : List LiveLease) (last soonest time : ℕ) (w : LiveLease) → IsKept (leases_of items) last soonest → w.number ≡ last + 1 → time ≤ soonest → time ≤ w.deadline → IsKept (leases_of (items ++ w ∷ [])) w.number time
+kept_push items last soonest time w kept e le within =
+    rw (map_push lease_of items w) (record {
+      numbered = numbered_push last 0 (leases_of items) (lease_of w) kept.numbered (omega (arith, e));
+      before = before_push time (leases_of items) (lease_of w) (before_earlier time soonest (leases_of items) le kept.before) within;
+    })
+
+module _ (items : List LiveLease) (now last soonest n i : ℕ) (table : LeaseTable) (view : record { now = now; live = leases_of items; last = last } ≡ table) (kept : IsKept (leases_of items) last soonest) (place : IsPlace table.live n (Some i)) where
+  live_is : leases_of items ≡ table.live
+  live_is = ap (λ (t : LeaseTable). t.live) view
+
+  there : IsPlace (leases_of items) n (Some i)
+  there = subst (λ (live : List Lease). IsPlace live n (Some i)) (sym live_is) place
+
+  pub is_there : is_live_lease table.live n ≡ true
+  is_there = found n i table.live (record { number = 0; seconds = 0; deadline = 0 }) place.0 (place.1 (record { number = 0; seconds = 0; deadline = 0 }))
+
+  pub kept_remove : IsKept (leases_of (remove items i)) last soonest
+  kept_remove = rw (map-remove items i) (record { numbered = numbered_remove last 0 i (leases_of items) kept.numbered; before = before_remove soonest i (leases_of items) kept.before })
+
+  pub revokes : record { now = now; live = leases_of (remove items i); last = last } ≡ revoked n table
+  revokes = rw (← view) (ap (λ (live : List Lease). record { now = now; live = live; last = last })
+      (map-remove items i ∙ gone last n 0 i (leases_of items) (record { number = 0; seconds = 0; deadline = 0 }) kept.numbered there.0 (there.1 _)))
+
+  module _ (r : LiveLease) (time : ℕ) (read : r ≡ get_or items i r) (time_is : time ≡ deadline_at now r.seconds) where
+    abbrev pub written : LiveLease
+    written = record { number = r.number; seconds = r.seconds; deadline = time }
+
+    read_view : get_or (leases_of items) i (lease_of r) ≡ lease_of r
+    read_view = get_or-map lease_of items i r (lease_of r) (omega (arith, there.0, length-map items lease_of)) ∙ ap lease_of (sym read)
+
+    number_is : r.number ≡ n
+    number_is = sym (ap (λ (lease : Lease). lease.number) read_view) ∙ there.1 (lease_of r)
+
+    written_is : lease_of written ≡ kept_alive now n (get_or (leases_of items) i (lease_of r))
+    written_is =
+        let same : (r.number == n) ≡ true = grind (arith, nat_tests, number_is) in
+        rw (read_view, same) (ap (λ (t : ℕ). record { number = r.number; seconds = r.seconds; deadline = t }) time_is)
+
+    set_is : leases_of (set items i written) ≡ map (kept_alive now n) (leases_of items)
+    set_is = map-set lease_of items i written ∙ ap (set (leases_of items) i) written_is ∙ moved last n now 0 i (leases_of items) (lease_of r) kept.numbered there.0 (there.1 _)
+
+    pub renews : record { now = now; live = leases_of (set items i written); last = last } ≡ renewed n table
+    renews = rw (← view) (ap (λ (live : List Lease). record { now = now; live = live; last = last }) set_is)
+
+    pub deadline_is : deadline_of n (record { now = now; live = leases_of (set items i written); last = last }) ≡ Some time
+    deadline_is = rw set_is (deadline_moved last n now 0 i (leases_of items) (lease_of r) kept.numbered there.0 (there.1 _)
+        ∙ ap (λ (lease : Lease). Some (deadline_at now lease.seconds)) read_view ∙ ap Some (sym time_is))
+
+    pub kept_set : (sooner : ℕ) → sooner ≤ soonest → sooner ≤ time → IsKept (leases_of (set items i written)) last sooner
+    kept_set sooner le within = rw (map-set lease_of items i written) (record {
+      numbered = numbered_set last 0 i (leases_of items) (lease_of written) (lease_of r) kept.numbered (sym (ap (λ (lease : Lease). lease.number) read_view));
+      before = before_set sooner i (leases_of items) (lease_of written) (before_earlier sooner soonest (leases_of items) le kept.before) within;
+    })

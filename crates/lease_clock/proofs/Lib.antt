@@ -1,0 +1,4 @@
+mod Edits
+mod Numbers
+mod Places
+mod Ranks

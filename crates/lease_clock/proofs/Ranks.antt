@@ -1,0 +1,140 @@
+-- The due leases in order of their ranks.
+use Rattle.std.proofs.Common.{◌≡◌, ℕ, ◌<◌, ◌≤◌, List, [], ◌∷◌, map, filter, length, Bool, true, false, cond, ◌||◌, ◌&&◌, T, Option, Some, is_some, IsTrue, refl, ap, sym, ◌∙◌, arith}
+use Rattle.std.specs.List.{list_any, AllByRecursion}
+use Rattle.std.specs.List.Sorted.{IsStrictlySortedBy}
+use Rattle.std.specs.Ordering.{nat_cmp, eq_by_cmp, is_eq, is_lt}
+use Rattle.std.specs.declared.cmp.Ordering.{Ordering}
+use Rattle.std.specs.declared.cmp.Ordering.TheVariants.{Less, Equal, Greater}
+use Rattle.std.specs.Cmp.{IsTotalOrder, then_total, on_total, nat_cmp_total, tied_itself, eq_by_cmp_equiv}
+use Rattle.std.specs.FinMap as finite
+use Rattle.std.specs.FinMap.{keys, contains_key-keys, get-from_entries, entries_sorted}
+use Rattle.std.specs.FinMap.Entries.{is_sorted, below_all, find}
+use Rattle.std.specs.BTreeSet.{BTreeSet, IsOrdered}
+use Rattle.std.proofs.lemmas.Map.Lookups.{exact_unsigned, exact_pairs, btree_set_from_contains}
+use Rattle.store_api.specs.Contents.{Lease, LeaseTable}
+use Rattle.lease_clock.specs.declared.leases.LiveLease.{LiveLease}
+use Rattle.lease_clock.specs.Kept.{HasRanks, due_ranks, lease_of, leases_of}
+use Rattle.lease_clock.specs.Lapses.{is_due, rank, rank_cmp, due_by_rank, due_leases, DueInOrder}
+
+-- ranks are in one order
+pub rank_total : IsTotalOrder rank_cmp
+rank_total = then_total (on_total (λ (r : ℕ × ℕ). r.0) nat_cmp_total) (on_total (λ (r : ℕ × ℕ). r.1) nat_cmp_total)
+
+-- the two are one rank
+abbrev pub same_rank : ℕ × ℕ → ℕ × ℕ → Bool
+same_rank = eq_by_cmp rank_cmp
+
+itself : (r : ℕ × ℕ) → same_rank r r ≡ true
+itself r = ap is_eq (tied_itself rank_total r)
+
+less_of : (o : Ordering) → T (is_lt o) → o ≡ Less
+less_of Less h = refl
+less_of Equal h = absurd h
+less_of Greater h = absurd h
+
+front : (a b : Bool) → T (a && b) → T a
+front true b h = tt
+front false b h = absurd h
+
+back : (a b : Bool) → T (a && b) → T b
+back true b h = h
+back false b h = absurd h
+
+abbrev Ranked : Type 0
+Ranked = List ((ℕ × ℕ) × Lease)
+
+abbrev ranks_of : Ranked → List (ℕ × ℕ)
+ranks_of es = map (λ (e : (ℕ × ℕ) × Lease). e.0) es
+
+-- from a test of order to the order
+all_below : (r : ℕ × ℕ) (es : Ranked) → T (below_all rank_cmp r es) → AllByRecursion (λ (q : ℕ × ℕ). rank_cmp r q ≡ Less) (ranks_of es)
+all_below r [] h = tt
+all_below r (e ∷ es) h = (less_of _ (front (is_lt (rank_cmp r e.0)) _ h), all_below r es (back (is_lt (rank_cmp r e.0)) _ h))
+
+in_order : (es : Ranked) → T (is_sorted rank_cmp es) → IsStrictlySortedBy rank_cmp (ranks_of es)
+unfolding IsStrictlySortedBy
+in_order [] h = tt
+in_order (e ∷ es) h = (all_below e.0 es (front (below_all rank_cmp e.0 es) _ h), in_order es (back (below_all rank_cmp e.0 es) _ h))
+
+some-or : (b : Bool) (lease : Lease) (o : Option Lease) → is_some (cond b (Some lease) o) ≡ (b || is_some o)
+some-or true lease o = refl
+some-or false lease o = refl
+
+-- a rank is found exactly where a lease has it
+finds : (q : ℕ × ℕ) (live : List Lease) → is_some (find rank_cmp q (map (λ (lease : Lease). (rank lease, lease)) live)) ≡ list_any (same_rank q) (map rank live)
+finds q [] = refl
+finds q (x ∷ xs) = some-or (same_rank q (rank x)) x _ ∙ ap (λ (b : Bool). same_rank q (rank x) || b) (finds q xs)
+
+-- the ranks of the map are those of the due leases
+pub has_keys : (table : LeaseTable) (q : ℕ × ℕ) → list_any (same_rank q) (keys (due_by_rank table)) ≡ list_any (same_rank q) (due_ranks table.now table.live)
+has_keys table q =
+    sym (contains_key-keys (due_by_rank table) q)
+    ∙ ap is_some (get-from_entries rank_total (map (λ (lease : Lease). (rank lease, lease)) (filter (is_due table.now) table.live)) q)
+    ∙ finds q (filter (is_due table.now) table.live)
+
+-- the law of every table
+pub in_order_all : DueInOrder
+in_order_all table = record { rises = in_order (finite.entries (due_by_rank table)) (entries_sorted (due_by_rank table)); members = has_keys table }
+
+-- a set of these ranks has them in the order of the map
+pub keys_are : (table : LeaseTable) (ranks : BTreeSet (ℕ × ℕ)) → IsOrdered rank_cmp ranks → HasRanks ranks (due_ranks table.now table.live) → ranks.keys ≡ keys (due_by_rank table)
+keys_are table ranks ordered has =
+    btree_set_from_contains rank_total ranks (record { keys = keys (due_by_rank table) }) ordered (in_order (finite.entries (due_by_rank table)) (entries_sorted (due_by_rank table)))
+    (λ q. has q ∙ sym (has_keys table q)) (exact_pairs nat_cmp nat_cmp exact_unsigned exact_unsigned)
+
+not_empty : (p : ℕ × ℕ → Bool) (rs : List (ℕ × ℕ)) → list_any p rs ≡ true → 0 < length rs
+not_empty p [] h = cc
+not_empty p (r ∷ rs) h = omega arith
+
+some_rank : (rs qs : List (ℕ × ℕ)) → ((q : ℕ × ℕ) → list_any (same_rank q) qs ≡ list_any (same_rank q) rs) → 0 < length rs → 0 < length qs
+some_rank [] qs alike h = absurd (omega arith)
+some_rank (r ∷ rs) qs alike h = not_empty (same_rank r) qs (alike r ∙ ap (λ (b : Bool). b || list_any (same_rank r) rs) (itself r))
+
+-- some lease passes exactly where some rank is left
+some_due : (now : ℕ) (live : List Lease) → list_any (is_due now) live ≡ true → 0 < length (due_ranks now live)
+some_due now [] h = cc
+some_due now (x ∷ xs) h =
+    elim (is_due now x) as (λ b. (b || list_any (is_due now) xs) ≡ true → 0 < length (map rank (cond b (x ∷ filter (is_due now) xs) (filter (is_due now) xs))))
+    [ true ↦ λ t. omega arith | false ↦ λ t. some_due now xs t ] h
+
+due_some : (now : ℕ) (live : List Lease) → 0 < length (due_ranks now live) → list_any (is_due now) live ≡ true
+due_some now [] h = absurd (omega arith)
+due_some now (x ∷ xs) h =
+    elim (is_due now x) as (λ b. 0 < length (map rank (cond b (x ∷ filter (is_due now) xs) (filter (is_due now) xs))) → (b || list_any (is_due now) xs) ≡ true)
+    [ true ↦ λ t. refl | false ↦ λ t. due_some now xs t ] h
+
+-- some lease is due exactly where the due leases are not empty
+pub is_any_due : (table : LeaseTable) (b : Bool) → b ≡ list_any (is_due table.now) table.live → (IsTrue b → 0 < length (due_leases table)) × (0 < length (due_leases table) → IsTrue b)
+is_any_due table b is =
+    let counted : length (due_leases table) ≡ length (keys (due_by_rank table)) = Rattle.std.proofs.lemmas.List.length-map (keys (due_by_rank table)) (λ (r : ℕ × ℕ). r.1) in (
+      λ yes. rw counted (some_rank (due_ranks table.now table.live) (keys (due_by_rank table)) (has_keys table) (some_due table.now table.live (sym is ∙ yes))),
+      λ some. is ∙ due_some table.now table.live (some_rank (keys (due_by_rank table)) (due_ranks table.now table.live) (λ q. sym (has_keys table q)) (rw (← counted) some)),
+    )
+
+-- before every deadline no lease is due
+pub none_due : (now time : ℕ) (live : List Lease) → AllByRecursion (λ (lease : Lease). time ≤ lease.deadline) live → now < time → list_any (is_due now) live ≡ false
+none_due now time [] h lt = refl
+none_due now time (x ∷ xs) h lt =
+    let later : is_due now x ≡ false = grind (arith, Rattle.std.proofs.lemmas.Bool.Decides.nat_tests, h.0) in
+    rw later (none_due now time xs h.1 lt)
+
+-- the test of the ranks of the due leases among these
+abbrev pub any_rank : ℕ → ℕ × ℕ → List LiveLease → Bool
+any_rank now q live = list_any (same_rank q) (due_ranks now (leases_of live))
+
+swapped : (a b f : Bool) → (cond a true b || f) ≡ (b || (a || f))
+swapped true true f = refl
+swapped true false f = refl
+swapped false b f = refl
+
+-- a step of the walk: a due lease's rank goes into the set, and another lease changes nothing
+pub one_due : (now : ℕ) (x : LiveLease) (rest : List LiveLease) (old new : Bool) (q : ℕ × ℕ) → x.deadline ≤ now
+    → new ≡ cond (same_rank (rank (lease_of x)) q) true old → (new || any_rank now q rest) ≡ (old || any_rank now q (x ∷ rest))
+one_due now x rest old new q le is =
+    let due : is_due now (lease_of x) ≡ true = grind (arith, Rattle.std.proofs.lemmas.Bool.Decides.nat_tests) in
+    rw (is, (eq_by_cmp_equiv rank_total).symm (rank (lease_of x)) q, due) (swapped (same_rank q (rank (lease_of x))) old (any_rank now q rest))
+
+pub not_due : (now : ℕ) (x : LiveLease) (rest : List LiveLease) (q : ℕ × ℕ) → now < x.deadline → any_rank now q rest ≡ any_rank now q (x ∷ rest)
+not_due now x rest q lt =
+    let later : is_due now (lease_of x) ≡ false = grind (arith, Rattle.std.proofs.lemmas.Bool.Decides.nat_tests) in
+    rw later refl

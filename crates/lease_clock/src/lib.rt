@@ -1,0 +1,14 @@
+//! A clock in seconds, and the leases that live by it.
+//!
+//! `leases` has the table of the live leases with its calls, and `laws` what holds of the order in
+//! which leases lapse.
+//! It knows nothing of keys, stores or threads.
+#![tactic(auto)]
+
+mod laws;
+mod leases;
+#[cfg(test)]
+mod tests;
+
+pub use laws::due_leases_in_order;
+pub use leases::Leases;
