@@ -3,7 +3,8 @@
 //! `kept` says what contracts see of a shared value: a log whose entries have owners, and a fixed
 //! part. `cell` has the cell and its passes, which take the turns. Below it `seat_steps` makes the
 //! steps of one turn on the cell's table, `steps` says what each kind of step tells, and `view`
-//! has what a pass knows and the rule that holds between any two steps.
+//! has what a pass knows and the rule that holds between any two steps. `tally` is an example of a
+//! value that is kept, and of a turn with it.
 //! It knows nothing of what the value is, nor of stores, boards or workers.
 #![tactic(auto)]
 
@@ -11,10 +12,12 @@ mod cell;
 mod kept;
 mod seat_steps;
 mod steps;
+mod tally;
 #[cfg(test)]
 mod tests;
 mod view;
 
 pub use cell::{Pass, TurnCell};
 pub use kept::Kept;
+pub use tally::{Tally, add_in_turn};
 pub use view::{Stage, Turns, View};

@@ -2,7 +2,7 @@ use Rattle.std.proofs.Common.{◌≡◌, ℕ, [], ◌∷◌, ◌++◌, sym, ap, 
 use Rattle.std.specs.Prelude.{Result, Ok, Err, OnOk, OnErr}
 use Rattle.std.proofs.lemmas.List.{append-nil}
 use Rattle.turn_cell.specs.Logs.{Log, AddsOwn}
-use Rattle.turn_cell.proofs.tests.turn.Goals as goal
+use Rattle.turn_cell.proofs.tally.add_in_turn.Goals as goal
 
 -- one own entry was added, or none
 one_or_none : {X Y E : Type 0} (n m : ℕ) (e : E) (r : Result X Y) (found old new : Log E) → m ≡ n → found ≡ old → OnOk r (new ≡ old ++ (m, e) ∷ []) → OnErr r (new ≡ old) → AddsOwn n found new
