@@ -1,13 +1,12 @@
 -- A transaction keeps the form of a history.
-use Rattle.std.proofs.Common.{◌≡◌, ℕ, zero, suc, ◌+◌, ◌<◌, ◌≤◌, List, [], ◌∷◌, ◌++◌, length, map, All, Option, Bool, true, false, cond, is_some, refl, ap, sym, ◌∙◌, subst, arith, ◌⊎◌, inl, inr}
+use Rattle.std.proofs.Common.{◌≡◌, ℕ, zero, suc, ◌+◌, ◌<◌, ◌≤◌, List, [], ◌∷◌, ◌++◌, length, map, All, Bool, true, false, cond, is_some, refl, ap, sym, ◌∙◌, subst, arith, ◌⊎◌, inl, inr}
 use Rattle.std.proofs.Math.Path.{fun_ext}
 use Rattle.std.proofs.lemmas.List.{get_or_push, length-append}
 use Rattle.std.proofs.lemmas.List.Elements.{All-nil, All-cons}
-use Rattle.std.proofs.lemmas.Map.Keys.{IsDistinct-head, IsDistinct-tail, IsDistinct-cons}
 use Rattle.std.specs.List.{IsDistinct, AllByRecursion}
 use Rattle.mesh_base.specs.Order.{same_bytes}
 use Rattle.store_api.specs.Followed.{changed_key}
-use Rattle.store_api.specs.History.{History, Pairs, revision, changes_at, live_at, key_of, change_of, changes_of, with_revision, committed}
+use Rattle.store_api.specs.History.{History, Pairs, revision, changes_at, live_at, key_of, change_of, changes_of, with_revision}
 use Rattle.store_api.specs.declared.change.Change.{Change}
 use Rattle.store_api.specs.declared.change.Change.TheVariants as change
 use Rattle.store_api.specs.declared.change.Op.{Op}

@@ -1,4 +1,4 @@
--- The text of a report.
+-- The text of a report, which is this project's own; addresses are printed as RFC 5952 has them.
 use Rattle.std.specs.Prelude.{ℕ, List, ◌++◌, codes, flat_map, if◌then◌else◌}
 use Rattle.std.specs.Fmt.{decimal}
 use Rattle.mesh_text.specs.Addresses.{address_text}

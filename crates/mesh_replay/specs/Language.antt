@@ -1,4 +1,4 @@
--- The scenario language: what a text says, or the number of its first line that is not the one wanted there.
+-- The scenario language, which is this project's own: what a text says, or the number of its first line that is not the one wanted there.
 use Rattle.std.specs.Prelude.{ℕ, ◌+◌, List, [], ◌∷◌, ◌++◌, length, drop, map, ◌&&◌, nat_le, Bool, if◌then◌else◌, Option, None, Some, Result, Ok, Err, option_and_then, codes, nat_eq, bytes_eq, is_none}
 use Rattle.std.specs.List.{starts_with, list_all}
 use Rattle.mesh_text.specs.Escapes.{unescaped}

@@ -1,4 +1,6 @@
 -- The rows of a report: a filter and a union over the sources' records.
+-- Source: Cilium's ClusterMesh documentation (a cluster's number is unique in the mesh). Which of two
+-- claims on a number is admitted is this project's own.
 use Rattle.std.specs.Prelude.{ℕ, List, [], ◌∷◌, ◌&&◌, ◌||◌, ◌==◌, Bool, false, if◌then◌else◌, Option, None, Some, option_and_then, flat_map}
 use Rattle.std.specs.Cmp.Lexicographic.{slice_cmp}
 use Rattle.std.specs.FinMap.{entries, get}

@@ -1,4 +1,5 @@
 -- A source of the report: what the agent's reader has sighted of a cluster, and how that stands.
+-- Source: Cilium's ClusterMesh documentation (after a reconnection earlier entries stay until synced).
 use Rattle.std.specs.Prelude.{ℕ, List, not, Bool}
 use Rattle.store_api.specs.Followed.{Followed}
 use Rattle.store_api.specs.History.{History, Pairing, in_ranges}

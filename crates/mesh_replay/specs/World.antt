@@ -1,4 +1,5 @@
 -- The world that a scenario leads to, where a call on a store may be lost with its whole effect or none.
+-- Source: etcd, "KV API guarantees" (a call that fails at the client may or may not have been applied).
 use Rattle.std.specs.Prelude.{ℕ, ◌+◌, ◌-◌, ◌^◌, List, [], ◌∷◌, ◌++◌, map, slice_index_or, slice_set, None}
 use Rattle.store_api.specs.Advance.{closed, turned}
 use Rattle.store_api.specs.Contents.{Contents, after_commit, empty_contents}

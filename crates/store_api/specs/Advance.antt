@@ -1,4 +1,6 @@
 -- How a reader's record goes on: rules on numbers alone.
+-- Source: etcd's API, KV service (Range tells its revision) and Watch service (a watch delivers every
+-- change from its revision on; one that begins in compacted history is refused with that revision).
 use Rattle.std.specs.Prelude.{ℕ, ◌+◌, leb, min, List, [], ◌∷◌, Bool, true, false, if◌then◌else◌}
 use Rattle.store_api.specs.Spans.{Span, Record}
 

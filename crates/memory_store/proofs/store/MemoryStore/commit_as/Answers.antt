@@ -1,4 +1,4 @@
-use Rattle.std.proofs.Common.{ap, ◌+◌, ◌≡◌, ◌≤◌, ℕ, List, ◌∷◌, ◌++◌, [], ◌<◌, length, ◌∙◌, sym, subst, arith}
+use Rattle.std.proofs.Common.{ap, ◌+◌, ◌≡◌, ℕ, List, ◌∷◌, ◌++◌, [], ◌<◌, length, ◌∙◌, sym, subst, arith}
 use Rattle.std.proofs.lemmas.Bool.Decides.{nat_tests}
 use Rattle.std.proofs.lemmas.Grind.{common_steps}
 use Rattle.std.proofs.lemmas.List.{length-append}
