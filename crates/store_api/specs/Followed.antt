@@ -1,8 +1,8 @@
 -- The part of a history that a reader follows.
 -- Source: etcd's API, Watch service (a watch is over ranges of keys).
-use Rattle.std.specs.Prelude.{ℕ, List, [], ◌∷◌, ◌||◌, Bool, true, false, if◌then◌else◌, None}
+use Rattle.std.specs.Prelude.{ℕ, List, [], ◌∷◌, ◌||◌, Bool, false, if◌then◌else◌, None}
 use Rattle.mesh_base.specs.Order.{same_bytes}
-use Rattle.store_api.specs.History.{History, Pairs, live_at, changes_at}
+use Rattle.store_api.specs.History.{History, Pairs, live_at}
 use Rattle.store_api.specs.declared.change.Change.{Change}
 use Rattle.store_api.specs.declared.change.Change.TheVariants as change
 

@@ -1,7 +1,7 @@
 -- What a reader has sighted of a history, by the spans of it that the reader followed.
 -- Source: etcd's API, Watch service (a watch from a revision delivers every change once, in order);
 -- Cilium's ClusterMesh documentation (after a reconnection earlier entries stay until synced).
-use Rattle.std.specs.Prelude.{ℕ, zero, suc, ◌+◌, leb, List, [], ◌∷◌, ◌||◌, ◌&&◌, Bool, true, false, if◌then◌else◌, None, is_some}
+use Rattle.std.specs.Prelude.{ℕ, zero, suc, ◌+◌, leb, List, [], ◌∷◌, ◌||◌, ◌&&◌, Bool, false, if◌then◌else◌, None, is_some}
 use Rattle.store_api.specs.History.{History, Pairs, changes_at}
 use Rattle.store_api.specs.Followed.{Followed, in_at, touches}
 

@@ -11,7 +11,10 @@ pub struct ReaderSource<T: Read + Drop> {
 }
 
 impl<T: Read + Drop> ReaderSource<T> {
-    pub fn new(reader: T) -> ReaderSource<T> {
+    /// No read has failed yet.
+    pub fn new(reader: T) -> ReaderSource<T>
+        ensures { ⟦<ReaderSource<T> as Source>⟧.faults result ≡ 0 }
+    {
         ReaderSource { reader, failed: 0 }
     }
 }
@@ -40,7 +43,10 @@ pub struct WriterSink<T: Write + Drop> {
 }
 
 impl<T: Write + Drop> WriterSink<T> {
-    pub fn new(writer: T) -> WriterSink<T> {
+    /// No write has failed yet.
+    pub fn new(writer: T) -> WriterSink<T>
+        ensures { ⟦<WriterSink<T> as Sink>⟧.faults result ≡ 0 }
+    {
         WriterSink { writer, failed: 0 }
     }
 }
