@@ -3,9 +3,9 @@ use Rattle.std.proofs.Common.{◌≡◌, ℕ, zero, suc, ◌<◌, ◌≤◌, ◌
 use Rattle.std.specs.List.{remove, find}
 use Rattle.std.specs.Option.{option_map}
 use Rattle.std.proofs.lemmas.Bool.Decides.{nat_tests}
-use Rattle.store_api.specs.Contents.{Lease, is_live_lease}
+use Rattle.store_api.specs.Leases.{Lease, is_live_lease, deadline_at, kept_alive}
 use Rattle.lease_clock.specs.Kept.{IsBefore}
-use Rattle.lease_clock.specs.Lapses.{IsNumbered, deadline_at, kept_alive}
+use Rattle.lease_clock.specs.Lapses.{IsNumbered}
 
 -- the lease has the number
 abbrev pub has : ℕ → Lease → Bool
@@ -138,3 +138,15 @@ before_remove t zero [] h = tt
 before_remove t (suc i) [] h = tt
 before_remove t zero (x ∷ xs) h = h.1
 before_remove t (suc i) (x ∷ xs) h = (h.0, before_remove t i xs h.1)
+
+-- what is left of the leases keeps both
+pub numbered_filter : (p : Lease → Bool) (last low : ℕ) (live : List Lease) → IsNumbered low live last → IsNumbered low (filter p live) last
+numbered_filter p last low [] h = h
+numbered_filter p last low (x ∷ xs) h =
+    elim (p x) as (λ b. IsNumbered low (cond b (x ∷ filter p xs) (filter p xs)) last)
+    [ true ↦ (h.0, numbered_filter p last x.number xs h.1) | false ↦ wider last low x.number (filter p xs) (omega (arith, h.0)) (numbered_filter p last x.number xs h.1) ]
+
+pub before_filter : (p : Lease → Bool) (t : ℕ) (live : List Lease) → IsBefore t live → IsBefore t (filter p live)
+before_filter p t [] h = tt
+before_filter p t (x ∷ xs) h =
+    elim (p x) as (λ b. IsBefore t (cond b (x ∷ filter p xs) (filter p xs))) [ true ↦ (h.0, before_filter p t xs h.1) | false ↦ before_filter p t xs h.1 ]
