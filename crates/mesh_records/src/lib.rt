@@ -16,6 +16,7 @@ mod node;
 mod read;
 mod records;
 mod service;
+mod service_trees;
 #[cfg(test)]
 mod tests;
 mod tree;
