@@ -10,3 +10,4 @@ pub mod Backends
 pub mod Service
 pub mod Record
 pub mod Trees
+pub mod Written
