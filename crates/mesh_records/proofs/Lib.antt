@@ -1,3 +1,4 @@
+pub mod AddressAscii
 pub mod AddressBack
 pub mod ConfigBack
 pub mod Depths

@@ -29,10 +29,7 @@ pub(crate) fn ip_text(alloc: Global, ip: Ip) -> Result<String, Memory>
     fits(ip);
     reads_written_address();
     let bytes = write_ip(alloc, ip)?;
-    match String::from_utf8(bytes) {
-        Ok(text) => Ok(text),
-        Err(_) => Err(Memory),
-    }
+    Ok(String::from_utf8(bytes).unwrap())
 }
 
 fn ip_value(alloc: Global, ip: Ip) -> Result<Value, Memory>
