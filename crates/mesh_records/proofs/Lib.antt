@@ -5,6 +5,7 @@ pub mod Depths
 pub mod NodeBack
 pub mod Cuts
 pub mod Fronts
+pub mod LabelGrammar
 pub mod LabelSteps
 pub mod LabelsBack
 pub mod Orders

@@ -6,6 +6,7 @@ pub mod Node
 pub mod Address
 pub mod Labels
 pub mod Identity
+pub mod Laws
 pub mod Backends
 pub mod Service
 pub mod Record
