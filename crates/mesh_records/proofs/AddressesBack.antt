@@ -24,7 +24,6 @@ use Rattle.mesh_records.proofs.AddressGroups.{ip_total}
 abbrev Ports : Type 0
 Ports = FinMap ip_cmp (List BackendPort)
 
-
 -- ---- the map's own insertion is that of a finite map
 
 put_is_insert : (es : List Group) (ip : Ip) (ports : List BackendPort) → insert_entry ip_cmp es ip ports ≡ put_entry ip_cmp ip ports es

@@ -77,10 +77,12 @@ front_first : (rest : List ℕ) (l : LabelText) (more : List ℕ) → IsLabel l 
 front_first rest l more is e = ap (split_once 59) (e ∙ text_parts l more) ∙ split_there 59 (front_of l) more (front_ends l is)
 
 none_begins : (rest text after : List ℕ) → 0 < length rest → both text after ≡ split_once 59 rest → label_of text ≡ None → BeginsNoLabel rest
-none_begins rest text after some cut none =
-    (some, λ l more is e.
-        let same : text ≡ front_of l = ap (λ (o : Option (List ℕ × List ℕ)). (or_cut o).0) (cut ∙ front_first rest l more is e) in
-        let read : None ≡ Some l = sym none ∙ ap label_of same ∙ front_read l is in cc)
+none_begins rest text after some cut none = (
+  some,
+  λ l more is e.
+      let same : text ≡ front_of l = ap (λ (o : Option (List ℕ × List ℕ)). (or_cut o).0) (cut ∙ front_first rest l more is e) in
+      let read : None ≡ Some l = sym none ∙ ap label_of same ∙ front_read l is in cc,
+)
 
 unended : (rest : List ℕ) → 0 < length rest → None ≡ split_once 59 rest → BeginsNoLabel rest
 unended rest some none =
@@ -107,10 +109,18 @@ says_more from rest text after l is front cut (Ok others) h =
     (All-cons IsLabel l others is h.0, cut ∙ ap (λ (t : List ℕ). t ++ 59 ∷ after) (sym front) ∙ sym (text_parts l after) ∙ ap (λ (t : List ℕ). label_text l ++ t) h.1)
 says_more from rest text after l is front cut (Err e) h =
     let labels = h.2.0 in
-    let behind = h.2.1 in
-    (h.0, h.1, (l ∷ labels, behind, All-cons IsLabel l labels is h.2.2,
-    cut ∙ ap (λ (t : List ℕ). t ++ 59 ∷ after) (sym front) ∙ sym (text_parts l after) ∙ ap (λ (t : List ℕ). label_text l ++ t) h.2.3 ∙ sym (append_assoc (label_text l) (flat_map label_text labels) behind),
-    place labels h.2.4, h.2.5))
+    let behind = h.2.1 in (
+      h.0,
+      h.1,
+      (
+        l ∷ labels,
+        behind,
+        All-cons IsLabel l labels is h.2.2,
+        cut ∙ ap (λ (t : List ℕ). t ++ 59 ∷ after) (sym front) ∙ sym (text_parts l after) ∙ ap (λ (t : List ℕ). label_text l ++ t) h.2.3 ∙ sym (append_assoc (label_text l) (flat_map label_text labels) behind),
+        place labels h.2.4,
+        h.2.5,
+      ),
+    )
   where
     place : (labels : List LabelText) → h.0 ≡ (from + length text + 1) + length (flat_map label_text labels) → h.0 ≡ from + length (label_text l ++ flat_map label_text labels)
     place labels e =

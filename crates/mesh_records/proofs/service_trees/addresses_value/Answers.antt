@@ -29,9 +29,9 @@ loop-first-preserved c =
     c.as_str.ensures.value ∙ c.in_ok-address.ensures.text ∙ ap (λ (b : BackendPort). address_text b.ip) c.first-in-Some.view_is in
     record {
       members =
-        one_more_address (members_view c.loop-first.map.entries) _ rest _ _ c.in-Some.first.now c.same_address.result _ _
-        c.in-Some.ensures.value many c.split_at.ensures.front c.split_at.ensures.back key c.in_ok-ports.ensures.tree c.in_ok-put.ensures.ok
-        ∙ c.loop-first.invariant.members;
+          one_more_address (members_view c.loop-first.map.entries) _ rest _ _ c.in-Some.first.now c.same_address.result _ _
+          c.in-Some.ensures.value many c.split_at.ensures.front c.split_at.ensures.back key c.in_ok-ports.ensures.tree c.in_ok-put.ensures.ok
+          ∙ c.loop-first.invariant.members;
       fit = λ h. c.loop-first.invariant.fit (split_all IsBackend c.same_address.result rest
-      (subst (AllByRecursion IsBackend) c.split_at.ensures.front c.in_ok-ports.ensures.fit) (subst (AllByRecursion IsBackend) c.split_at.ensures.back h));
+          (subst (AllByRecursion IsBackend) c.split_at.ensures.front c.in_ok-ports.ensures.fit) (subst (AllByRecursion IsBackend) c.split_at.ensures.back h));
     }

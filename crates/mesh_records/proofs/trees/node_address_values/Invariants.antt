@@ -11,5 +11,5 @@ abbrev pub invariant-loop-address : goal.invariant-loop-address
 invariant-loop-address l = record {
   trees : map view l.values.items ++ map node_address_tree (drop l.address-index l.addresses) ≡ map node_address_tree l.addresses;
   read_back : AllByRecursion (λ (a : List ℕ × Ip). address_of (address_text a.1) ≡ Some a.1) (drop l.address-index l.addresses)
-    → AllByRecursion (λ (a : List ℕ × Ip). address_of (address_text a.1) ≡ Some a.1) l.addresses;
+      → AllByRecursion (λ (a : List ℕ × Ip). address_of (address_text a.1) ≡ Some a.1) l.addresses;
 }
