@@ -1,6 +1,5 @@
 -- Addresses that were written in the order of their texts are read back in their own order.
-use Rattle.std.proofs.Common.{◌≡◌, ℕ, Bool, true, false, List, [], ◌∷◌, ◌++◌, map, Option, None, Some, is_some, cond, Result, Ok, Ordering, Less, Equal, Greater, nat_cmp, refl, sym, ◌∙◌, ap, subst, append_assoc, append-nil, codes}
-use Rattle.std.proofs.lemmas.Map.Lookups.{exact_bytes}
+use Rattle.std.proofs.Common.{◌≡◌, Bool, true, false, List, [], ◌∷◌, ◌++◌, map, Option, None, Some, cond, Ok, Ordering, Less, Equal, Greater, nat_cmp, refl, sym, ◌∙◌, ap, subst, append_assoc, append-nil}
 use Rattle.std.specs.List.{AllByRecursion}
 use Rattle.std.specs.List.Sorted.{IsStrictlySortedBy}
 use Rattle.std.specs.Map.{keys_of, lookup}
@@ -13,10 +12,8 @@ use Rattle.serde_json.specs.Data.{Data, Members, member, no_members, put}
 use Rattle.mesh_text.specs.declared.ip.Ip.{Ip}
 use Rattle.mesh_text.specs.Laws.{ip_cmp}
 use Rattle.mesh_text.specs.Addresses.{address_of, address_text}
-use Rattle.mesh_records.specs.declared.fault.ReadFault.{ReadFault}
 use Rattle.mesh_records.specs.Values.{BackendPort}
-use Rattle.mesh_records.specs.Judgement.{◌>>=◌}
-use Rattle.mesh_records.specs.Service.{addresses_of, new_address, ports_of}
+use Rattle.mesh_records.specs.Service.{addresses_of, ports_of}
 use Rattle.mesh_records.specs.Trees.{named_port, object_of, ports_under_address, put_all}
 use Rattle.mesh_records.proofs.Orders.{Group, same_ip, tied_ip}
 use Rattle.mesh_records.proofs.AddressGroups.{ip_total}

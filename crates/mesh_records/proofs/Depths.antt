@@ -1,8 +1,8 @@
 -- Trees that are put together from shallow trees without floats are such trees themselves.
-use Rattle.std.proofs.Common.{◌≡◌, ℕ, ◌≤◌, ◌+◌, max, Bool, false, true, ◌||◌, List, [], ◌∷◌, map, Ordering, Less, Equal, Greater, nat_cmp, refl, sym, ◌∙◌, ap, arith}
+use Rattle.std.proofs.Common.{◌≡◌, ℕ, ◌≤◌, max, Bool, false, true, ◌||◌, List, [], ◌∷◌, map, Ordering, Less, Equal, Greater, nat_cmp, refl, arith}
 use Rattle.std.specs.Ordering.{match_ordering}
 use Rattle.std.specs.Cmp.Lexicographic.{slice_cmp}
-use Rattle.serde_json.specs.Data.{Data, Items, item, no_items, Members, member, no_members, put, depth, items_depth, members_depth}
+use Rattle.serde_json.specs.Data.{Data, Members, member, no_members, put, depth, items_depth, members_depth}
 use Rattle.serde_json.specs.View.{items_of}
 use Rattle.serde_json.specs.Written.{has_float, items_have_float, members_have_float}
 use Rattle.mesh_records.specs.Trees.{put_all}

@@ -1,7 +1,7 @@
 -- An identity's bytes are read by the grammar of labels.
-use Rattle.std.proofs.Common.{◌≡◌, ◌↔◌, ℕ, zero, suc, ◌+◌, ◌<◌, ◌≤◌, ◌==◌, ◌&&◌, List, [], ◌∷◌, ◌++◌, Bool, true, false, Option, None, Some, Result, Ok, Err, cond, option_and_then, refl, sym, ◌∙◌, ap, subst, arith, length, nat_lt, append_assoc, length-append}
+use Rattle.std.proofs.Common.{◌≡◌, ℕ, zero, suc, ◌+◌, ◌<◌, ◌≤◌, ◌==◌, ◌&&◌, List, [], ◌∷◌, ◌++◌, Bool, true, false, Option, None, Some, Result, Ok, Err, cond, option_and_then, refl, sym, ◌∙◌, ap, subst, arith, length, nat_lt, append_assoc, length-append}
 use Rattle.std.specs.List.{All, flat_map}
-use Rattle.std.proofs.lemmas.Bool.{eq-eqb, ne_eqb}
+use Rattle.std.proofs.lemmas.Bool.{ne_eqb}
 use Rattle.std.proofs.lemmas.List.Elements.{All-nil, All-cons, All-head, All-tail}
 use Rattle.std.proofs.lemmas.List.Splits.{slice_split_none}
 use Rattle.mesh_records.specs.declared.fault.ReadFault.{ReadFault}
@@ -14,7 +14,7 @@ use Rattle.mesh_records.specs.Labels.{IsWithout, IsLabel, AreTextsOf, BeginsNoLa
 use Rattle.mesh_records.specs.Laws.{ReadsLabelTexts, FindsFirstUnreadable, RefusesByPlace}
 use Rattle.mesh_records.proofs.Cuts.{Cuts, both, cuts, uncut, parts_fit}
 use Rattle.mesh_records.proofs.LabelSteps.{parts_of, label_then, label_in_front, no_end}
-use Rattle.mesh_records.proofs.LabelsBack.{front_of, front_read, front_ends, identity_reads_back, labels_read, split_there, text_parts}
+use Rattle.mesh_records.proofs.LabelsBack.{front_of, front_read, front_ends, identity_reads_back, split_there, text_parts}
 use Rattle.mesh_records.proofs.Orders.{given, given_by, same_given}
 
 -- ---- a label that is read is one

@@ -1,18 +1,17 @@
 -- Labels that were written are read back.
-use Rattle.std.proofs.Common.{◌≡◌, ℕ, ◌+◌, ◌<◌, ◌==◌, ◌&&◌, List, [], ◌∷◌, ◌++◌, Bool, true, false, Option, None, Some, Result, Ok, Err, cond, option_map, option_and_then, refl, sym, ◌∙◌, ap, subst, arith, length, nat_lt, append_assoc, get_or, take, drop, ◌≤◌}
-use Rattle.std.specs.List.{All, slice_split, flat_map, count_by}
+use Rattle.std.proofs.Common.{◌≡◌, ℕ, ◌+◌, ◌<◌, ◌==◌, List, [], ◌∷◌, ◌++◌, Bool, true, false, Option, Some, Result, Ok, cond, option_map, option_and_then, refl, sym, ◌∙◌, ap, subst, arith, length, nat_lt, append_assoc, get_or, take, drop, ◌≤◌}
+use Rattle.std.specs.List.{All, flat_map, count_by}
 use Rattle.std.proofs.lemmas.Bool.{eq-eqb, lt-ltb}
 use Rattle.std.proofs.lemmas.List.Elements.{All-head, All-tail, All-append, All-cons, All-more}
 use Rattle.std.proofs.lemmas.List.{drop_more, take_all}
 use Rattle.std.proofs.lemmas.List.Splits.{slice_split_at, length-slice_split}
 use Rattle.mesh_records.specs.declared.fault.ReadFault.{ReadFault}
-use Rattle.mesh_records.specs.declared.records.IdentityRecord.{IdentityRecord}
 use Rattle.mesh_records.specs.Values.{LabelText}
 use Rattle.mesh_records.specs.Judgement.{◌>>=◌}
 use Rattle.mesh_records.specs.Identity.{identity_of}
 use Rattle.mesh_records.specs.Labels.{IsWithout, IsLabel, label_text, split_once, has_byte, label_of, label_of_parts, label_at, labels_at}
 use Rattle.mesh_records.proofs.Cuts.{both}
-use Rattle.mesh_records.proofs.LabelSteps.{parts_of, label_then, labels_more}
+use Rattle.mesh_records.proofs.LabelSteps.{parts_of, labels_more}
 
 pub split_there : (b : ℕ) (p q : List ℕ) → IsWithout b p → split_once b (p ++ b ∷ q) ≡ both p q
 split_there b [] q h = ap (λ (c : Bool). cond c (both [] q) (option_map (λ (r : List ℕ × List ℕ). (b ∷ r.0, r.1)) (split_once b q))) (eq-eqb b b refl)

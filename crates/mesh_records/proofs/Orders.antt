@@ -1,5 +1,5 @@
 -- The ports of each address in order make backends in order.
-use Rattle.std.proofs.Common.{◌≡◌, ℕ, List, [], ◌∷◌, ◌++◌, map, Option, Result, Ok, Err, Ordering, Less, Equal, Greater, Global, String, string_bytes, string_cmp, nat_cmp, refl, sym, ◌∙◌, ap, subst, codes, ◌^◌}
+use Rattle.std.proofs.Common.{◌≡◌, ℕ, List, [], ◌∷◌, ◌++◌, map, Option, Result, Ok, Err, Ordering, Less, Equal, Greater, Global, String, string_bytes, string_cmp, nat_cmp, refl, sym, ◌∙◌, ap, subst, codes}
 use mathlib.Core.Path.{fun_ext}
 use Rattle.std.specs.List.{AllByRecursion, flat_map}
 use Rattle.std.specs.List.Sorted.{IsStrictlySortedBy}

@@ -1,5 +1,5 @@
 -- The ports of an address that were written are read back.
-use Rattle.std.proofs.Common.{◌≡◌, ℕ, ◌<◌, Bool, true, List, [], ◌∷◌, ◌++◌, map, Result, Ok, Ordering, Less, Greater, nat_cmp, refl, sym, ◌∙◌, ap, subst, arith, nat_lt, append_assoc, append-nil}
+use Rattle.std.proofs.Common.{◌≡◌, ℕ, true, List, [], ◌∷◌, ◌++◌, map, Ok, Less, Greater, nat_cmp, refl, sym, ◌∙◌, ap, subst, nat_lt, append_assoc, append-nil}
 use Rattle.std.proofs.lemmas.Bool.{lt-ltb}
 use Rattle.std.proofs.lemmas.Cmp.{nat_list_cmp_total}
 use Rattle.std.specs.List.{AllByRecursion}
@@ -8,9 +8,7 @@ use Rattle.std.specs.Ordering.{ordering_reverse}
 use Rattle.std.specs.Cmp.Lexicographic.{slice_cmp}
 use Rattle.serde_json.specs.Data.{Members, member, no_members, put}
 use Rattle.mesh_text.specs.declared.ip.Ip.{Ip}
-use Rattle.mesh_records.specs.declared.fault.ReadFault.{ReadFault}
 use Rattle.mesh_records.specs.Values.{BackendPort}
-use Rattle.mesh_records.specs.Judgement.{◌>>=◌}
 use Rattle.mesh_records.specs.Backends.{ArePortsOf, IsBackend}
 use Rattle.mesh_records.specs.Service.{port_of, ports_of}
 use Rattle.mesh_records.specs.Trees.{named_port, port_tree, put_all}

@@ -1,8 +1,8 @@
 -- A service that was written is read back.
-use Rattle.std.proofs.Common.{◌≡◌, ℕ, ◌<◌, ◌≤◌, ◌^◌, lit≤, Bool, true, false, List, [], ◌∷◌, ◌++◌, map, Some, Result, Ok, refl, sym, ap, ◌∙◌, subst, arith, nat_lt, length, codes}
+use Rattle.std.proofs.Common.{◌≡◌, ℕ, ◌<◌, ◌≤◌, ◌^◌, lit≤, true, false, List, [], ◌∷◌, ◌++◌, map, Some, Result, Ok, refl, sym, ap, ◌∙◌, subst, arith, nat_lt, codes}
 use Rattle.std.proofs.lemmas.Bool.{lt-ltb}
 use Rattle.std.specs.List.{AllByRecursion}
-use Rattle.serde_json.specs.Data.{Data, depth, no_members}
+use Rattle.serde_json.specs.Data.{depth, no_members}
 use Rattle.serde_json.specs.Written.{has_float}
 use Rattle.mesh_text.specs.declared.ip.Ip.{Ip}
 use Rattle.mesh_text.specs.Addresses.{address_of, address_text}
@@ -10,7 +10,7 @@ use Rattle.mesh_text.proofs.CallerLemmas.{address_of-address_text}
 use Rattle.mesh_records.specs.declared.fault.ReadFault.{ReadFault}
 use Rattle.mesh_records.specs.Values.{BackendPort, Service}
 use Rattle.mesh_records.specs.Judgement.{◌>>=◌}
-use Rattle.mesh_records.specs.Backends.{AreInOrder, ArePortsOf, IsBackend}
+use Rattle.mesh_records.specs.Backends.{AreInOrder, IsBackend}
 use Rattle.mesh_records.specs.Service.{backends, service_of}
 use Rattle.mesh_records.specs.Trees.{by_address, named_port, object_of, ports_under_address, service_tree}
 use Rattle.mesh_records.proofs.Orders.{Group, all_ports}

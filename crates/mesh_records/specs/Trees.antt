@@ -1,7 +1,7 @@
 -- What is written for a record: its JSON tree, with the members in byte order and absent fields left out.
 use Rattle.std.specs.Prelude.{ℕ, suc, List, [], ◌∷◌, codes, map, Option, None, Some, option_map, if◌then◌else◌}
 use Rattle.std.specs.Ordering.{is_eq}
-use Rattle.serde_json.specs.Data.{Data, boolean, number, unsigned, string, array, object, Items, Members, no_members, member, put}
+use Rattle.serde_json.specs.Data.{Data, boolean, number, unsigned, string, array, object, Members, no_members, member, put}
 use Rattle.serde_json.specs.View.{items_of}
 use Rattle.mesh_text.specs.declared.ip.Ip.{Ip}
 use Rattle.mesh_text.specs.Addresses.{address_text}
