@@ -1,0 +1,5 @@
+pub mod Beginnings
+pub mod Paths
+pub mod Keys
+pub mod Reading
+pub mod Mapping

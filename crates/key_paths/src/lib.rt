@@ -1,0 +1,15 @@
+//! The keys of a cluster mesh: their grammar, the ranges that a reader follows, and the mapping between the two hops.
+//!
+//! `hop` and `key` are what a key says, `fault` why bytes are none, `front` the fixed beginnings.
+//! It knows nothing of values, records or stores.
+#![tactic(auto)]
+
+mod fault;
+mod front;
+mod hop;
+mod key;
+
+pub use fault::KeyFault;
+pub use hop::Hop;
+pub use key::Key;
+pub use mesh_text::Kind;
