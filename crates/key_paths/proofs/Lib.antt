@@ -1,1 +1,3 @@
 mod Examples
+pub mod Forms
+pub mod Parting

@@ -8,8 +8,12 @@ mod fault;
 mod front;
 mod hop;
 mod key;
+mod parts;
+mod read;
+mod words;
 
 pub use fault::KeyFault;
 pub use hop::Hop;
 pub use key::Key;
 pub use mesh_text::Kind;
+pub use read::read_key;
