@@ -1,8 +1,8 @@
 -- The readers of single parts.
-use Rattle.std.proofs.Common.{◌≡◌, ℕ, Bool, true, false, List, Some, None, Ok, Err, refl, ◌⊎◌, inl, inr}
+use Rattle.std.proofs.Common.{◌≡◌, Bool, true, false, Some, None, Ok, Err, refl, ◌⊎◌, inl, inr}
 use Rattle.mesh_text.specs.declared.names.NameFault.{NameFault}
 use Rattle.mesh_text.specs.declared.names.NameFault.TheVariants as name
-use Rattle.mesh_text.specs.Names.{is_cluster_name, is_part_name, cluster_name_fault, part_name_fault}
+use Rattle.mesh_text.specs.Names.{cluster_name_fault, part_name_fault}
 use Rattle.mesh_text.proofs.CallerLemmas.{cluster_name_from_no_fault, part_name_from_no_fault, no_fault-from_is_cluster_name, no_fault-from_is_part_name}
 use Rattle.key_paths.specs.declared.fault.KeyFault.TheVariants as fault
 use Rattle.key_paths.specs.Reading.{Place, Gives, cluster_at, name_at}

@@ -1,3 +1,4 @@
 mod Examples
 pub mod Forms
 pub mod Parting
+pub mod FrontLemmas

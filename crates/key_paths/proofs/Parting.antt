@@ -1,15 +1,12 @@
 -- Splitting at each `/`.
-use Rattle.std.proofs.Common.{◌≡◌, ℕ, ◌+◌, ◌<◌, ◌≤◌, ◌==◌, Bool, true, false, List, [], ◌∷◌, ◌++◌, length, get_or, take, drop, cond, map, ◌-◌, Option, Some, None, refl, sym, ap, ◌∙◌, subst, arith, append_assoc, length-drop, take_all}
-use Rattle.std.specs.List.{position, position_or_len}
+use Rattle.std.proofs.Common.{◌≡◌, ℕ, ◌+◌, ◌==◌, Bool, true, false, List, [], ◌∷◌, length, take, drop, cond, ◌-◌, Some, None, refl, arith, length-drop, take_all}
+use Rattle.std.specs.List.{position}
 use Rattle.std.proofs.lemmas.Bool.{ltb-false}
 use Rattle.std.proofs.lemmas.List.Quantifiers.{position-Some}
 use Rattle.std.proofs.lemmas.List.Sums.{position_or_len_is, fails_before_first}
 use Rattle.std.proofs.lemmas.List.Elements.{All-from_get_or}
 use Rattle.std.proofs.lemmas.List.Splits.{slice_split_none, slice_split_first}
 use Rattle.mesh_text.specs.Addresses.{split_at}
-use Rattle.key_paths.specs.declared.parts.Part.{Part}
-use Rattle.key_paths.specs.Reading.{Place, placed}
-use Rattle.key_paths.specs.Parts.{seen}
 
 -- the first part ends before the first `/`
 pub split_some : (bytes : List ℕ) (n : ℕ) → position (λ c. c == 47) bytes ≡ Some n → split_at 47 bytes ≡ take n bytes ∷ split_at 47 (drop (n + 1) bytes)

@@ -109,13 +109,19 @@ node_of_parts hop (cluster ∷ node ∷ []) = do
   Ok (key.Node hop cluster node)
 node_of_parts hop parts = other_parts parts
 
+-- a namespace and a name in it
+abbrev pub names_at : Place → Place → Result (List ℕ × List ℕ) KeyFault
+names_at namespace name = do
+  namespace ← name_at namespace
+  name ← name_at name
+  Ok (namespace, name)
+
 -- a cluster, a namespace and a name
 abbrev pub service_of_parts : Hop → List Place → Result Key KeyFault
 service_of_parts hop (cluster ∷ namespace ∷ name ∷ []) = do
   cluster ← cluster_at cluster
-  namespace ← name_at namespace
-  name ← name_at name
-  Ok (key.Service hop cluster namespace name)
+  names ← names_at namespace name
+  Ok (key.Service hop cluster names.0 names.1)
 service_of_parts hop parts = other_parts parts
 
 -- a number, in a cache behind a cluster and the word `id`

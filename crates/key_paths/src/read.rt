@@ -1,7 +1,7 @@
 // Bytes as a key.
 ghost use Rattle.std.specs.Prelude.{◌≡◌, length, map};
 ghost use Rattle.key_paths.specs.Parts.{seen};
-ghost use Rattle.key_paths.specs.Reading.{Gives, hop_named, kind_named, path_of, key_of, mark_of_parts, node_of_parts, service_of_parts, identity_of_parts, address_of_parts, record_of_parts, key_of_parts};
+ghost use Rattle.key_paths.specs.Reading.{Gives, hop_named, kind_named, path_of, key_of, mark_of_parts, node_of_parts, names_at, service_of_parts, identity_of_parts, address_of_parts, record_of_parts, key_of_parts};
 ghost use Rattle.key_paths.specs.Reading.{cluster_alone};
 ghost use Rattle.key_paths.specs.declared.hop.Hop.TheVariants.{State, Cache};
 
@@ -11,7 +11,7 @@ use crate::hop::Hop;
 use crate::key::Key;
 use crate::parts::{Part, cluster_at, ip_at, name_at, number_at, parts_behind};
 use crate::words::{HOPS, KINDS, hop_word, kind_word};
-use mesh_text::{ClusterName, Kind};
+use mesh_text::{ClusterName, Kind, PartName};
 use std::alloc::Global;
 
 /// The fault of parts that are not those that there must be.
@@ -72,6 +72,19 @@ fn node_of_parts(alloc: Global, hop: Hop, parts: &[Part<'_>]) -> Result<Key, Key
     Ok(Key::Node { hop, cluster, node })
 }
 
+/// A namespace and a name in it.
+fn names_at(
+    alloc: Global,
+    namespace: &Part<'_>,
+    name: &Part<'_>,
+) -> Result<(PartName, PartName), KeyFault>
+    ensures { Gives result (names_at (seen namespace.now) (seen name.now)) }
+{
+    let namespace = name_at(alloc, namespace)?;
+    let name = name_at(alloc, name)?;
+    Ok((namespace, name))
+}
+
 fn service_of_parts(alloc: Global, hop: Hop, parts: &[Part<'_>]) -> Result<Key, KeyFault>
     ensures { Gives result (service_of_parts hop (map seen parts.now)) }
 {
@@ -79,8 +92,7 @@ fn service_of_parts(alloc: Global, hop: Hop, parts: &[Part<'_>]) -> Result<Key, 
         return Err(other_parts(parts));
     };
     let cluster = cluster_at(alloc, cluster)?;
-    let namespace = name_at(alloc, namespace)?;
-    let name = name_at(alloc, name)?;
+    let (namespace, name) = names_at(alloc, namespace, name)?;
     Ok(Key::Service {
         hop,
         cluster,
@@ -192,7 +204,7 @@ fn key_of_parts(alloc: Global, front: Front, parts: &[Part<'_>]) -> Result<Key, 
 ///
 /// The faults come in the order of `KeyFault`, and the first is answered; `Memory` comes where
 /// memory was wanted.
-#[tactic(auto, unfolding(crate::specs::Reading::key_of))]
+#[tactic(auto, using(crate::proofs::FrontLemmas::front_at_within), unfolding(crate::specs::Reading::key_of))]
 pub fn read_key(alloc: Global, bytes: &[u8]) -> Result<Key, KeyFault>
     ensures { Gives result (key_of bytes.now) }
 {

@@ -1,5 +1,4 @@
-use Rattle.std.proofs.Common.{◌∙◌, ap, sym, ◌+◌, ◌∷◌, take, drop}
-use Rattle.mesh_text.specs.Addresses.{split_at}
+use Rattle.std.proofs.Common.{sym, ◌+◌}
 use Rattle.key_paths.proofs.Parting.{split_some, split_none, drop-all}
 use Rattle.key_paths.proofs.parts.first_part.Goals as goal
 
