@@ -3,4 +3,5 @@ pub mod Forms
 pub mod Parting
 pub mod Writing
 pub mod Sound
+pub mod Complete
 pub mod FrontLemmas

@@ -48,7 +48,7 @@ tested-Ok : {A : Type 0} (b : Bool) (x a : A) (e : KeyFault) → cond b (Ok x) (
 tested-Ok true x a e h = (refl, cc)
 tested-Ok false x a e h = absurd cc
 
-tested-Some : {A : Type 0} (b : Bool) (x a : A) → cond b (Some x) None ≡ Some a → (b ≡ true) × (a ≡ x)
+pub tested-Some : {A : Type 0} (b : Bool) (x a : A) → cond b (Some x) None ≡ Some a → (b ≡ true) × (a ≡ x)
 tested-Some true x a h = (refl, cc)
 tested-Some false x a h = absurd cc
 
