@@ -39,7 +39,7 @@ slashless-from_bytes passes slash text h = All-from_recursion (λ c. (c == 47) �
     by_bytes : (text : List ℕ) → list_all passes text ≡ true → AllByRecursion (λ c. (c == 47) ≡ false) text
     by_bytes [] h = tt
     by_bytes (c ∷ cs) h =
-        let (good, more) = and_parts _ _ h in
+        let (good, more) = and_parts (passes c) (list_all passes cs) h in
         (ne_eqb c 47 (λ same. let bad : passes c ≡ false = rw same slash in absurd cc), by_bytes cs more)
 
 pub slashless-cluster_name : (text : List ℕ) → IsClusterName text → IsSlashless text

@@ -4,4 +4,6 @@ pub mod Parting
 pub mod Writing
 pub mod Sound
 pub mod Complete
+pub mod Moves
+pub mod Ownership
 pub mod FrontLemmas
