@@ -1,8 +1,7 @@
 -- The bytes of a key are read as the key.
-use Rattle.std.proofs.Common.{◌≡◌, ◌⊎◌, inl, inr, ℕ, ◌+◌, ◌<◌, ◌≤◌, ◌^◌, ◌==◌, Bool, true, false, nat_lt, not, List, [], ◌∷◌, ◌++◌, length, drop, map, All, Option, Some, None, Result, Ok, Err, cond, codes, decimal, bytes_eq, IsTrue, refl, sym, ap, ◌∙◌, subst, arith, ne_eqb, lt-ltb, lit<}
+use Rattle.std.proofs.Common.{◌≡◌, inl, inr, ℕ, ◌<◌, ◌^◌, ◌==◌, Bool, true, false, List, [], ◌∷◌, length, All, Some, None, Ok, codes, decimal, refl, ap, ◌∙◌, arith, ne_eqb, lt-ltb, lit<}
 use Rattle.std.specs.List.{join_with_byte, list_all, AllByRecursion}
-use Rattle.std.specs.Option.{option_and_then}
-use Rattle.std.proofs.lemmas.Bool.{and_parts, eqb-true}
+use Rattle.std.proofs.lemmas.Bool.{and_parts}
 use Rattle.std.specs.Char.{is_ascii_digit, is_ascii_lowercase}
 use Rattle.std.proofs.lemmas.Slice.Eq.{bytes_eq-Decides}
 use Rattle.std.proofs.lemmas.List.Elements.{All-weaker, All-from_recursion}
@@ -12,21 +11,19 @@ use Rattle.std.proofs.lemmas.List.Splits.{slice_split_none, slice_split_at}
 use Rattle.mesh_text.specs.declared.ip.Ip.{Ip}
 use Rattle.mesh_text.specs.declared.kind.Kind.{Kind}
 use Rattle.mesh_text.specs.declared.kind.Kind.TheVariants.{Nodes, Services, Identities, Addresses}
-use Rattle.mesh_text.specs.Names.{is_cluster_name, is_part_name, is_cluster_byte, is_part_byte}
-use Rattle.mesh_text.specs.Numbers.{number_of, is_decimal}
-use Rattle.mesh_text.specs.Addresses.{address_of, address_text, split_at}
+use Rattle.mesh_text.specs.Names.{is_cluster_byte, is_part_byte}
+use Rattle.mesh_text.specs.Numbers.{number_of}
+use Rattle.mesh_text.specs.Addresses.{address_text, split_at}
 use Rattle.mesh_text.specs.Laws.{IsIp}
 use Rattle.mesh_text.proofs.CallerLemmas.{IsAddressByte, address_text-bytes, cluster_name-bytes, part_name-bytes, number_of-decimal, address_of-address_text}
 use Rattle.key_paths.specs.declared.hop.Hop.{Hop}
 use Rattle.key_paths.specs.declared.hop.Hop.TheVariants.{State, Cache}
-use Rattle.key_paths.specs.declared.front.Front.{Front}
-use Rattle.key_paths.specs.declared.front.Front.TheVariants.{Configs, Marks, Records, Cuts}
 use Rattle.key_paths.specs.declared.key.Key.{Key}
 use Rattle.key_paths.specs.declared.key.Key.TheVariants as a_key
-use Rattle.key_paths.specs.Beginnings.{beginning, front_at}
-use Rattle.key_paths.specs.Paths.{hop_word, kind_word, hops, kinds}
+use Rattle.key_paths.specs.Beginnings.{beginning}
+use Rattle.key_paths.specs.Paths.{hop_word, kind_word}
 use Rattle.key_paths.specs.Keys.{front_of, parts_of, key_bytes, IsKey, IsKeyOf, IsClusterName, IsPartName}
-use Rattle.key_paths.specs.Reading.{Place, placed, parts_behind, ◌>>=◌, cluster_at, name_at, number_at, ip_at, small_number_of, canonical_address_of, path_of, mark_of_parts, key_of_parts, key_behind, key_of}
+use Rattle.key_paths.specs.Reading.{placed, cluster_at, name_at, number_at, ip_at, path_of, key_of_parts, key_of}
 use Rattle.key_paths.proofs.FrontLemmas.{front_at-beginning, behind-beginning}
 
 -- no byte of the text is a `/`

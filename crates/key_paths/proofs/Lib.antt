@@ -7,3 +7,4 @@ pub mod Complete
 pub mod Moves
 pub mod Ownership
 pub mod FrontLemmas
+pub mod CallerLemmas

@@ -1,11 +1,10 @@
 -- The mapping between the hops.
-use Rattle.std.proofs.Common.{◌≡◌, ℕ, Bool, true, false, cond, ◌||◌, nat_eq, List, [], ◌∷◌, ◌++◌, length, drop, map, Option, Some, None, is_some, IsTrue, refl, sym, ap, ◌∙◌}
-use Rattle.std.specs.List.{starts_with, list_any}
-use Rattle.std.proofs.Math.Bool.{or-true}
+use Rattle.std.proofs.Common.{◌≡◌, ℕ, Bool, true, false, cond, ◌||◌, nat_eq, List, [], ◌∷◌, ◌++◌, length, drop, map, Some, is_some, refl, sym, ap, ◌∙◌}
+use Rattle.std.specs.List.{starts_with}
 use Rattle.std.proofs.Math.Seq.{drop-append_seam}
 use Rattle.mesh_text.specs.declared.kind.Kind.{Kind}
 use Rattle.mesh_text.specs.declared.kind.Kind.TheVariants.{Nodes, Services, Identities, Addresses}
-use Rattle.store_api.specs.History.{in_range, in_ranges}
+use Rattle.store_api.specs.History.{in_ranges}
 use Rattle.key_paths.specs.declared.hop.Hop.{Hop}
 use Rattle.key_paths.specs.declared.hop.Hop.TheVariants.{State, Cache}
 use Rattle.key_paths.specs.Beginnings.{beginning}

@@ -1,10 +1,9 @@
 -- Whose ranges a key lies in.
-use Rattle.std.proofs.Common.{◌≡◌, ℕ, Bool, true, false, ◌||◌, ◌==◌, nat_eq, List, [], ◌∷◌, ◌++◌, length, drop, map, All, Option, Some, None, Result, Ok, codes, IsTrue, bytes_eq, refl, sym, ap, ◌∙◌, subst, append_assoc, append-nil}
-use Rattle.std.specs.List.{starts_with, list_any, AllByRecursion}
+use Rattle.std.proofs.Common.{◌≡◌, ℕ, Bool, true, false, ◌||◌, ◌==◌, nat_eq, List, [], ◌∷◌, ◌++◌, length, drop, Some, Ok, codes, refl, sym, ap, ◌∙◌, subst, append_assoc}
+use Rattle.std.specs.List.{starts_with, AllByRecursion}
 use Rattle.std.proofs.lemmas.Slice.Eq.{bytes_eq-Decides}
 use Rattle.std.proofs.lemmas.Map.Text.{is_eq-slice_cmp}
 use Rattle.std.proofs.lemmas.List.Splits.{slice_split_none, slice_split_at}
-use Rattle.mesh_base.specs.Order.{same_bytes}
 use Rattle.mesh_text.specs.declared.kind.Kind.{Kind}
 use Rattle.mesh_text.specs.declared.kind.Kind.TheVariants.{Nodes, Services, Identities, Addresses}
 use Rattle.mesh_text.specs.Addresses.{split_at}
@@ -17,10 +16,10 @@ use Rattle.key_paths.specs.declared.front.Front.{Front}
 use Rattle.key_paths.specs.declared.front.Front.TheVariants.{Configs, Marks, Records, Cuts}
 use Rattle.key_paths.specs.declared.key.Key.{Key}
 use Rattle.key_paths.specs.Beginnings.{beginning, front_at, front_kind, front_hop}
-use Rattle.key_paths.specs.Paths.{config_key, cut_key, marks_front, record_front, record_range, ranges_of, own_ranges}
+use Rattle.key_paths.specs.Paths.{record_front, ranges_of, own_ranges}
 use Rattle.key_paths.specs.Keys.{IsClusterName, key_bytes, front_of, kind_of, hop_of}
 use Rattle.key_paths.specs.Reading.{key_of}
-use Rattle.key_paths.proofs.FrontLemmas.{starts-sound, starts-append, front_at-beginning, behind-beginning}
+use Rattle.key_paths.proofs.FrontLemmas.{starts-sound, front_at-beginning, behind-beginning}
 use Rattle.key_paths.proofs.Sound.{key_of-sound}
 use Rattle.key_paths.proofs.Complete.{IsSlashless, slashless-cluster_name}
 

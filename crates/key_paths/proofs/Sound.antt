@@ -1,6 +1,5 @@
 -- What is read as a key is the bytes of that key.
-use Rattle.std.proofs.Common.{◌≡◌, ℕ, ◌+◌, ◌<◌, ◌^◌, Bool, true, false, nat_lt, List, [], ◌∷◌, ◌++◌, length, drop, map, Option, Some, None, Result, Ok, Err, ◌&&◌, cond, codes, decimal, IsTrue, bytes_eq, refl, sym, ap, ◌∙◌, subst}
-use Rattle.std.specs.List.{join_with_byte}
+use Rattle.std.proofs.Common.{◌≡◌, ℕ, ◌+◌, ◌<◌, ◌^◌, Bool, true, false, nat_lt, List, [], ◌∷◌, length, drop, map, Option, Some, None, Result, Ok, Err, ◌&&◌, cond, codes, decimal, bytes_eq, refl, sym, ap, ◌∙◌, subst}
 use Rattle.std.specs.Option.{option_and_then, option_map}
 use Rattle.std.proofs.lemmas.Bool.{ltb-true}
 use Rattle.std.proofs.lemmas.Slice.Eq.{bytes_eq-Decides}
@@ -8,7 +7,6 @@ use Rattle.std.proofs.lemmas.List.Splits.{join_with_byte-slice_split}
 use Rattle.mesh_text.specs.declared.ip.Ip.{Ip}
 use Rattle.mesh_text.specs.declared.kind.Kind.{Kind}
 use Rattle.mesh_text.specs.declared.kind.Kind.TheVariants.{Nodes, Services, Identities, Addresses}
-use Rattle.mesh_text.specs.Names.{is_cluster_name, is_part_name}
 use Rattle.mesh_text.specs.Numbers.{number_of}
 use Rattle.mesh_text.specs.Addresses.{address_of, address_text, split_at}
 use Rattle.mesh_text.specs.Laws.{IsIp}
@@ -24,7 +22,7 @@ use Rattle.key_paths.specs.declared.fault.KeyFault.TheVariants as fault
 use Rattle.key_paths.specs.Beginnings.{beginning, front_at}
 use Rattle.key_paths.specs.Paths.{hop_word, kind_word, hops, kinds}
 use Rattle.key_paths.specs.Keys.{front_of, parts_of, key_bytes, IsKey, IsKeyOf, IsClusterName, IsPartName}
-use Rattle.key_paths.specs.Reading.{Place, placed, parts_behind, ◌>>=◌, or_fault, cluster_at, name_at, number_at, ip_at, small_number_of, canonical_address_of, hop_named, kind_named, path_of, mark_from, mark_of_parts, names_at, node_of_parts, service_of_parts, identity_of_parts, address_of_parts, record_of_parts, cluster_alone, key_of_parts, key_behind, key_of}
+use Rattle.key_paths.specs.Reading.{Place, placed, parts_behind, ◌>>=◌, or_fault, cluster_at, name_at, number_at, ip_at, hop_named, kind_named, path_of, mark_from, mark_of_parts, names_at, node_of_parts, service_of_parts, identity_of_parts, address_of_parts, cluster_alone, key_of_parts, key_behind, key_of}
 use Rattle.key_paths.proofs.FrontLemmas.{front_at-sound, find-sound}
 
 -- what two judgements one after the other gave, each gave
