@@ -76,17 +76,21 @@ AreSlashless parts = AllByRecursion IsSlashless parts
 
 parts-slashless : (key : Key) → IsKey key → AreSlashless (parts_of key)
 parts-slashless (a_key.Config cluster) c = (slashless-cluster_name cluster c, tt)
-parts-slashless (a_key.Synced cluster hop kind) c =
-    (slashless-cluster_name cluster c,
-        (slashless-from_bytes is_ascii_lowercase refl (codes "cilium") refl,
-            (slashless-hop hop, (slashless-kind kind, (slashless-from_bytes is_part_byte refl (codes "v1") refl, tt)))))
+parts-slashless (a_key.Synced cluster hop kind) c = (
+  slashless-cluster_name cluster c,
+  (
+    slashless-from_bytes is_ascii_lowercase refl (codes "cilium") refl,
+    (slashless-hop hop, (slashless-kind kind, (slashless-from_bytes is_part_byte refl (codes "v1") refl, tt))),
+  ),
+)
 parts-slashless (a_key.Node hop cluster node) (c, n) = (slashless-cluster_name cluster c, (slashless-part_name node n, tt))
 parts-slashless (a_key.Service hop cluster namespace name) (c, s, n) =
     (slashless-cluster_name cluster c, (slashless-part_name namespace s, (slashless-part_name name n, tt)))
 parts-slashless (a_key.Identity None number) (c, n) = (slashless-decimal number n, tt)
-parts-slashless (a_key.Identity (Some cluster) number) (c, n) =
-    (slashless-cluster_name cluster c,
-        (slashless-from_bytes is_ascii_lowercase refl (codes "id") refl, (slashless-decimal number n, tt)))
+parts-slashless (a_key.Identity (Some cluster) number) (c, n) = (
+  slashless-cluster_name cluster c,
+  (slashless-from_bytes is_ascii_lowercase refl (codes "id") refl, (slashless-decimal number n, tt)),
+)
 parts-slashless (a_key.Address None ip) (c, i) = (slashless-address ip, tt)
 parts-slashless (a_key.Address (Some cluster) ip) (c, i) = (slashless-cluster_name cluster c, (slashless-address ip, tt))
 parts-slashless (a_key.Cut cluster) c = (slashless-cluster_name cluster c, tt)
@@ -104,6 +108,7 @@ parts-split key h = some_parts (parts_of key) (has_parts key) (parts-slashless k
     some_parts : (parts : List (List ℕ)) → 0 < length parts → AreSlashless parts → split_at 47 (join_with_byte 47 parts) ≡ parts
     some_parts [] some slashless = absurd (omega arith)
     some_parts (first ∷ more) some slashless = split_at-joined first more slashless
+
     has_parts : (key : Key) → 0 < length (parts_of key)
     has_parts (a_key.Config cluster) = lit< tt
     has_parts (a_key.Synced cluster hop kind) = lit< tt

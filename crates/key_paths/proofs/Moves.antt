@@ -37,10 +37,10 @@ moved_among-sound (kind ∷ more) from to cluster bytes image h =
     by_front (starts_with nat_eq bytes (record_front from kind cluster)) refl h (moved_among-sound more from to cluster bytes image)
   where
     by_front : (starts : Bool) → starts_with nat_eq bytes (record_front from kind cluster) ≡ starts
-      → cond starts (Some (record_front to kind cluster ++ drop (length (record_front from kind cluster)) bytes)) (moved_among more from to cluster bytes) ≡ Some image
-      → (moved_among more from to cluster bytes ≡ Some image → ExchangesFront from to cluster bytes image) → ExchangesFront from to cluster bytes image
+        → cond starts (Some (record_front to kind cluster ++ drop (length (record_front from kind cluster)) bytes)) (moved_among more from to cluster bytes) ≡ Some image
+        → (moved_among more from to cluster bytes ≡ Some image → ExchangesFront from to cluster bytes image) → ExchangesFront from to cluster bytes image
     by_front true e h later =
-      (kind, drop (length (record_front from kind cluster)) bytes, starts-sound bytes (record_front from kind cluster) e, sym cc)
+        (kind, drop (length (record_front from kind cluster)) bytes, starts-sound bytes (record_front from kind cluster) e, sym cc)
     by_front false e h later = later h
 
 pub moved-sound : (from to : Hop) (cluster bytes image : List ℕ) → moved from to cluster bytes ≡ Some image → ExchangesFront from to cluster bytes image
@@ -62,7 +62,7 @@ is_some-among (kind ∷ more) from to cluster bytes =
     by_front (starts_with nat_eq bytes (record_front from kind cluster)) (is_some-among more from to cluster bytes)
   where
     by_front : (starts : Bool) → is_some (moved_among more from to cluster bytes) ≡ in_ranges (map (record_range from cluster) more) bytes
-      → is_some (cond starts (Some (record_front to kind cluster ++ drop (length (record_front from kind cluster)) bytes)) (moved_among more from to cluster bytes)) ≡ (starts || in_ranges (map (record_range from cluster) more) bytes)
+        → is_some (cond starts (Some (record_front to kind cluster ++ drop (length (record_front from kind cluster)) bytes)) (moved_among more from to cluster bytes)) ≡ (starts || in_ranges (map (record_range from cluster) more) bytes)
     by_front true later = refl
     by_front false later = later
 

@@ -81,14 +81,32 @@ owned-in_ranges owner bytes (range ∷ more) (first, others) h =
 
 own_ranges-owned : (owner : List ℕ) (hop : Hop) → IsSlashless owner → AllByRecursion (Owns owner) (own_ranges owner hop)
 unfolding own_ranges ranges_of record_front
-own_ranges-owned owner State slashless =
-    (owns-one Configs owner slashless, (owns-front Marks owner [] slashless,
-        (owns-front (Records State Nodes) owner [] slashless, (owns-front (Records State Services) owner [] slashless, tt))))
-own_ranges-owned owner Cache slashless =
-    (owns-one Configs owner slashless, (owns-front Marks owner [] slashless,
-        (owns-front (Records Cache Nodes) owner [] slashless, (owns-front (Records Cache Services) owner [] slashless,
-            (owns-front (Records Cache Identities) owner (codes "id/") slashless, (owns-front (Records Cache Addresses) owner [] slashless,
-                (owns-one Cuts owner slashless, tt)))))))
+own_ranges-owned owner State slashless = (
+  owns-one Configs owner slashless,
+  (
+    owns-front Marks owner [] slashless,
+    (owns-front (Records State Nodes) owner [] slashless, (owns-front (Records State Services) owner [] slashless, tt)),
+  ),
+)
+own_ranges-owned owner Cache slashless = (
+  owns-one Configs owner slashless,
+  (
+    owns-front Marks owner [] slashless,
+    (
+      owns-front (Records Cache Nodes) owner [] slashless,
+      (
+        owns-front (Records Cache Services) owner [] slashless,
+        (
+          owns-front (Records Cache Identities) owner (codes "id/") slashless,
+          (
+            owns-front (Records Cache Addresses) owner [] slashless,
+            (owns-one Cuts owner slashless, tt),
+          ),
+        ),
+      ),
+    ),
+  ),
+)
 
 -- no key lies in the own ranges of two clusters
 pub owned_by_one : (a b : List ℕ) (hop_a hop_b : Hop) (bytes : List ℕ) → IsClusterName a → IsClusterName b → in_ranges (own_ranges a hop_a) bytes ≡ true → in_ranges (own_ranges b hop_b) bytes ≡ true → a ≡ b

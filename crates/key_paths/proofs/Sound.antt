@@ -218,10 +218,13 @@ path_of-sound first hop kind last path h = by_words (bytes_eq first (codes "cili
     by_words : (is_first is_last : Bool) → bytes_eq first (codes "cilium") ≡ is_first → bytes_eq last (codes "v1") ≡ is_last → cond (is_first && is_last) (option_and_then (λ hop. option_map (λ kind. (hop, kind)) (kind_named kind)) (hop_named hop)) None ≡ Some path → (first ≡ codes "cilium") × ((hop ≡ hop_word path.0) × ((kind ≡ kind_word path.1) × (last ≡ codes "v1")))
     by_words true true e f h =
         let (named_hop, hop_read, h₁) = and_then-Some (hop_named hop) _ path h in
-        let (named_kind, kind_read, h₂) = map-Some (kind_named kind) _ path h₁ in
-        ((bytes_eq-Decides first (codes "cilium")).0 e,
-            (hop_named-sound hop path.0 (hop_read ∙ ap (λ p. Some p.0) h₂),
-                (kind_named-sound kind path.1 (kind_read ∙ ap (λ p. Some p.1) h₂), (bytes_eq-Decides last (codes "v1")).0 f)))
+        let (named_kind, kind_read, h₂) = map-Some (kind_named kind) _ path h₁ in (
+          (bytes_eq-Decides first (codes "cilium")).0 e,
+          (
+            hop_named-sound hop path.0 (hop_read ∙ ap (λ p. Some p.0) h₂),
+            (kind_named-sound kind path.1 (kind_read ∙ ap (λ p. Some p.1) h₂), (bytes_eq-Decides last (codes "v1")).0 f),
+          ),
+        )
     by_words true false e f h = absurd cc
     by_words false true e f h = absurd cc
     by_words false false e f h = absurd cc

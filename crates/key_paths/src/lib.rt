@@ -13,6 +13,8 @@ mod mapping;
 mod parts;
 mod paths;
 mod read;
+#[cfg(test)]
+mod tests;
 mod words;
 mod write;
 
