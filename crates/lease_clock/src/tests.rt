@@ -40,6 +40,23 @@ fn leases_due_together_come_by_deadline_and_then_number(rt: HostRuntime) -> Resu
 }
 
 #[test]
+fn due_leases_are_told_beforehand_and_end_at_an_expiry(rt: HostRuntime) -> Result<(), Fail> {
+    let alloc = rt.alloc();
+    let mut leases = Leases::new(alloc);
+    let _ = leases.grant(30)?;
+    let _ = leases.grant(20)?;
+    assert!(rt; !leases.has_due_after(19));
+    assert!(rt; leases.has_due_after(20));
+    assert_eq!(rt; leases.due_after(alloc, 30)?.as_slice(), [2, 1].as_slice());
+    assert!(rt; !leases.has_due());
+    leases.advance(20);
+    leases.expire();
+    assert!(rt; leases.is_live(1));
+    assert!(rt; !leases.is_live(2));
+    Ok(())
+}
+
+#[test]
 fn a_renewal_counts_from_now_and_not_from_the_old_deadline(rt: HostRuntime) -> Result<(), Fail> {
     let mut leases = Leases::new(rt.alloc());
     let _ = leases.grant(10)?;

@@ -21,6 +21,7 @@ use Rattle.store_api.specs.Spans.{Record, Span, some_from, speaks, unread}
 use Rattle.store_api.specs.declared.change.Change.{Change}
 use Rattle.store_api.specs.declared.change.Change.TheVariants as change
 use Rattle.store_api.specs.declared.change.Listing.{Listing}
+use Rattle.store_api.proofs.CallerLemmas.{get-map_at}
 use Rattle.mesh_replay.specs.Block.{block, node_line, source_line}
 use Rattle.mesh_replay.specs.Checks.{is_synced, valid_config, valid_node}
 use Rattle.mesh_replay.specs.Keys.{config_key}
@@ -28,18 +29,6 @@ use Rattle.mesh_replay.specs.Lines.{text_of_rows}
 use Rattle.mesh_replay.specs.Listed.{Entries, Sees, alone, listed, listed_rows, rows_under, shown_block, source_text}
 use Rattle.mesh_replay.specs.Merge.{NodeRow, admitted, admitted_by, config_in, is_taken, node_rows, node_rows_by, row_of}
 use Rattle.mesh_replay.specs.Sources.{Source, direct_source, state_of}
-
-get-changed : (m : Pairing) (c : Change) (k : List ℕ) → map1.get (changed_map m c) k ≡ after_change k (map1.get m k) c
-get-changed m (change.Put key value lease) k = get-insert nat_list_cmp_total m key value k ∙ ap (λ (b : Bool). cond b (Some value) (map1.get m k)) ((eq_by_cmp_equiv nat_list_cmp_total).symm k key)
-get-changed m (change.Delete key) k = get-remove nat_list_cmp_total m key k ∙ ap (λ (b : Bool). cond b None (map1.get m k)) ((eq_by_cmp_equiv nat_list_cmp_total).symm k key)
-
-get-after_all : (m : Pairing) (changes : List Change) (k : List ℕ) → map1.get (after_all m changes) k ≡ after_changes k (map1.get m k) changes
-get-after_all m [] k = refl
-get-after_all m (c ∷ changes) k = get-after_all (changed_map m c) changes k ∙ ap (λ (o : Option (List ℕ)). after_changes k o changes) (get-changed m c k)
-
-get-map_at : (h : History) (r : ℕ) (k : List ℕ) → map1.get (map_at h r) k ≡ live_at h r k
-get-map_at h zero k = get-empty (slice_cmp nat_cmp) k
-get-map_at h (suc r) k = get-after_all (map_at h r) (changes_at h (suc r)) k ∙ ap (λ (o : Option (List ℕ)). after_changes k o (changes_at h (suc r))) (get-map_at h r k)
 
 kept-keys : (m : Pairing) (p : List ℕ → Bool) (k : List ℕ) → map1.get (map1.retain_keys m p) k ≡ cond (p k) (map1.get m k) None
 kept-keys m p k = get-retain_keys m p k (λ x tie. ap p (sym (exact_bytes k x tie)))

@@ -5,7 +5,7 @@ ghost use Rattle.mesh_replay.specs.Lossy.{with_faults};
 
 use memory_store::MemoryStore;
 use std::alloc::Global;
-use store_api::{Listing, Memory, Op, Ranges, Store, StoreAdmin, StoreFault};
+use store_api::{Batch, Listing, Memory, Op, Ranges, Store, StoreAdmin, StoreFault};
 
 /// Whether a call is lost, and when.
 #[derive(Clone, Copy)]
@@ -82,9 +82,82 @@ impl Store for LossyStore {
             _ => Ok(self.inner.commit(alloc, ops)?),
         }
     }
+
+    fn pull(
+        &mut self,
+        alloc: Global,
+        ranges: &Ranges,
+        from: u64,
+        most: u64,
+    ) -> Result<Batch, StoreFault> {
+        match self.next_call() {
+            When::Before if self.lost < u64::MAX => {
+                self.lost += 1;
+                Err(StoreFault::Lost)
+            }
+            When::After if self.lost < u64::MAX => {
+                let _ = self.inner.pull(alloc, ranges, from, most)?;
+                self.lost += 1;
+                Err(StoreFault::Lost)
+            }
+            _ => Ok(self.inner.pull(alloc, ranges, from, most)?),
+        }
+    }
+
+    fn grant(&mut self, alloc: Global, seconds: u64) -> Result<u64, StoreFault> {
+        match self.next_call() {
+            When::Before if self.lost < u64::MAX => {
+                self.lost += 1;
+                Err(StoreFault::Lost)
+            }
+            When::After if self.lost < u64::MAX => {
+                let _ = self.inner.grant(alloc, seconds)?;
+                self.lost += 1;
+                Err(StoreFault::Lost)
+            }
+            _ => Ok(self.inner.grant(alloc, seconds)?),
+        }
+    }
+
+    fn keep_alive(&mut self, lease: u64) -> Result<(), StoreFault> {
+        match self.next_call() {
+            When::Before if self.lost < u64::MAX => {
+                self.lost += 1;
+                Err(StoreFault::Lost)
+            }
+            When::After if self.lost < u64::MAX => {
+                self.inner.keep_alive(lease)?;
+                self.lost += 1;
+                Err(StoreFault::Lost)
+            }
+            _ => {
+                self.inner.keep_alive(lease)?;
+                Ok(())
+            }
+        }
+    }
 }
 
-impl StoreAdmin for LossyStore {}
+impl StoreAdmin for LossyStore {
+    fn tick(&mut self, alloc: Global, seconds: u64) -> Result<u64, StoreFault> {
+        match self.next_call() {
+            When::Before if self.lost < u64::MAX => {
+                self.lost += 1;
+                Err(StoreFault::Lost)
+            }
+            When::After if self.lost < u64::MAX => {
+                let _ = self.inner.tick(alloc, seconds)?;
+                self.lost += 1;
+                Err(StoreFault::Lost)
+            }
+            _ => Ok(self.inner.tick(alloc, seconds)?),
+        }
+    }
+
+    fn compact(&mut self, alloc: Global, upto: u64) -> Result<u64, Memory> {
+        Ok(self.inner.compact(alloc, upto)?)
+    }
+}
 
 /// 256 fresh stores, of which that of the only remote loses calls by the plan.
 pub fn lossy_stores(alloc: Global, plan: Vec<When>) -> Result<Vec<LossyStore>, Memory>
