@@ -14,6 +14,8 @@ mod judging;
 mod laws;
 mod limit;
 mod reading;
+#[cfg(test)]
+mod tests;
 
 pub use checking::check;
 pub use configs::check_config;
