@@ -1,13 +1,14 @@
-// A library with one function.
+//! A link to a store that fails the calls that are planned to fail.
+//!
+//! `state` has what a link keeps: its plan, whether it is down, and how many calls it failed;
+//! `link` the link before a store.
+//! It knows nothing of keys and values, nor of which store is behind it.
 #![tactic(auto)]
 
-ghost use Rattle.std.specs.Prelude.{◌≡◌};
-ghost use Rattle.flaky_link.specs.Echo.{echo_of};
+mod link;
+mod state;
+#[cfg(test)]
+mod tests;
 
-// The `ensures` clause is the contract: what `echo` returns is `echo_of` of its argument, a definition
-// in `specs/Echo.antt`, which a caller's clause can cite too.
-pub fn echo(x: usize) -> usize
-    ensures { result ≡ echo_of x }
-{
-    x
-}
+pub use link::FlakyLink;
+pub use state::{LinkState, When};
