@@ -60,12 +60,12 @@ module _ (most : ℕ) (c : Contents) (reader : Reader) where
   reads_on is_open spans (turn.Listed l) a s =
       (omega (arith, a.1.at), a.1.pairs ∙ ap (λ (r : ℕ). listing_at reader.ranges c.history r) (sym a.1.at))
   reads_on false spans (turn.Pulled b) a s = absurd (never_closed spans a.0 s)
-  reads_on true spans (turn.Pulled b) a s =
-      ( refl
-      , omega (arith, a.2, a.3.upto, s.cursor)
-      , omega (arith, a.3.upto)
-      , a.3.revisions ∙ ap (λ (end : ℕ). parts (in_ranges reader.ranges) c.history end b.upto) s.cursor
-      )
+  reads_on true spans (turn.Pulled b) a s = (
+    refl,
+    omega (arith, a.2, a.3.upto, s.cursor),
+    omega (arith, a.3.upto),
+    a.3.revisions ∙ ap (λ (end : ℕ). parts (in_ranges reader.ranges) c.history end b.upto) s.cursor,
+  )
   reads_on is_open spans (turn.Compacted n) a s = tt
   reads_on is_open spans turn.Lost a s = tt
   reads_on is_open spans turn.NothingNew a s = tt

@@ -5,9 +5,9 @@
 #![tactic(auto)]
 
 mod reader;
-mod turns;
 #[cfg(test)]
 mod tests;
+mod turns;
 
 pub use reader::Reflector;
 pub use turns::{Turn, delivery};

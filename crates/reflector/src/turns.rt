@@ -12,9 +12,7 @@ pub enum Turn {
     Pulled(Batch),
     /// The revision behind its cursor is compacted, so changes would be missed; history is there
     /// above this revision. The reader waits to list again.
-    Compacted {
-        compacted: u64,
-    },
+    Compacted { compacted: u64 },
     /// The connection failed. The reader waits to list again.
     Lost,
     /// Its cursor is the store's revision.
