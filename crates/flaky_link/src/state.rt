@@ -1,4 +1,4 @@
-ghost use Rattle.std.specs.Prelude.{◌≡◌, ◌<◌, ◌+◌, ◌-◌, ◌^◌, ◌++◌, ◌∷◌, [], true, false, drop, OnOk, OnErr};
+ghost use Rattle.std.specs.Prelude.{◌≡◌, ◌++◌, ◌∷◌, [], true, false, OnOk, OnErr};
 ghost use Rattle.flaky_link.specs.Link.{fate, met};
 ghost use Rattle.flaky_link.specs.Through.{after_hidden, hidden};
 ghost use Rattle.flaky_link.specs.declared.state.Fate.TheVariants.{FailsAfter};
@@ -101,7 +101,8 @@ impl LinkState {
         match self.plan.front().copied() {
             None => Fate::Passes,
             Some((0, When::Before)) => {
-                self.fail_as_planned();
+                self.plan.pop_front();
+                self.faults += 1;
                 Fate::FailsBefore
             }
             Some((0, When::After)) => Fate::FailsAfter,
@@ -120,16 +121,8 @@ impl LinkState {
         if let Err(StoreFault::Memory) = answer {
             return Err(StoreFault::Memory);
         }
-        self.fail_as_planned();
-        Err(StoreFault::Lost)
-    }
-
-    // Counts the failure that is next in the plan, and takes it out.
-    fn fail_as_planned(&mut self)
-        requires { self.old.faults < 2 ^ 64 - 1 }
-        ensures { self.new ≡ record self.old { plan = drop 1 self.old.plan; faults = self.old.faults + 1 } }
-    {
         self.plan.pop_front();
         self.faults += 1;
+        Err(StoreFault::Lost)
     }
 }
