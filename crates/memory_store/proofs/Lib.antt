@@ -1,5 +1,9 @@
-pub mod Calls
-pub mod Forms
-pub mod Fronts
-pub mod Logs
-pub mod Sets
+mod Calls
+mod Expiry
+mod Forms
+mod Fronts
+mod Indexes
+mod Keeping
+mod Logs
+mod Sets
+mod Watched

@@ -1,5 +1,5 @@
 // Which lease each key is attached to, and the keys of each lease.
-ghost use Rattle.std.specs.Prelude.{◌≡◌, ◌==◌, ℕ, List, true, false, OnOk, if◌then◌else◌};
+ghost use Rattle.std.specs.Prelude.{◌≡◌, ◌==◌, ℕ, List, true, false, Some, None, OnOk, if◌then◌else◌};
 ghost use Rattle.std.specs.Ordering.{nat_cmp};
 ghost use Rattle.std.specs.Cmp.Lexicographic.{slice_cmp};
 ghost use Rattle.std.specs.BTreeMap.{get};
@@ -37,14 +37,33 @@ impl Attached {
         ensures leases { OnOk result ((k : List ℕ) → get (slice_cmp nat_cmp) self.new.leases k ≡ (if same_bytes key.now k then lease else get (slice_cmp nat_cmp) self.old.leases k)) }
         ensures keys { OnOk result (HasKeys self.new.leases self.new.keys) }
     {
-        if let Some(old) = self.leases.remove(key) {
-            forget(&mut self.keys, old, key)?;
+        self.detach(key)?;
+        match lease {
+            Some(lease) => self.attach_first(alloc, key, lease),
+            None => Ok(()),
         }
-        if let Some(lease) = lease {
-            self.leases.insert(key.clone()?, lease)?;
-            add(alloc, &mut self.keys, lease, key.clone()?)?;
+    }
+
+    fn detach(&mut self, key: &Bytes) -> Result<(), Memory>
+        requires { HasKeys self.old.leases self.old.keys }
+        ensures leases { OnOk result ((k : List ℕ) → get (slice_cmp nat_cmp) self.new.leases k ≡ (if same_bytes key.now k then None else get (slice_cmp nat_cmp) self.old.leases k)) }
+        ensures keys { OnOk result (HasKeys self.new.leases self.new.keys) }
+    {
+        match self.leases.remove(key) {
+            Some(lease) => forget(&mut self.keys, lease, key),
+            None => Ok(()),
         }
-        Ok(())
+    }
+
+    // Attaches a key that is attached to no lease.
+    fn attach_first(&mut self, alloc: Global, key: &Bytes, lease: u64) -> Result<(), Memory>
+        requires none { get (slice_cmp nat_cmp) self.old.leases key.now ≡ None }
+        requires keys { HasKeys self.old.leases self.old.keys }
+        ensures leases { OnOk result ((k : List ℕ) → get (slice_cmp nat_cmp) self.new.leases k ≡ (if same_bytes key.now k then Some lease else get (slice_cmp nat_cmp) self.old.leases k)) }
+        ensures keys { OnOk result (HasKeys self.new.leases self.new.keys) }
+    {
+        self.leases.insert(key.clone()?, lease)?;
+        add(alloc, &mut self.keys, lease, key.clone()?)
     }
 }
 

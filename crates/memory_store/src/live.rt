@@ -60,11 +60,7 @@ fn apply_change(alloc: Global, current: &mut Current, change: &Change) -> Result
     Ok(())
 }
 
-pub fn apply_changes(
-    alloc: Global,
-    current: &mut Current,
-    changes: &[Change],
-) -> Result<(), Memory>
+pub fn apply_changes(alloc: Global, current: &mut Current, changes: &[Change]) -> Result<(), Memory>
     requires { HasKeys current.old.attached.leases current.old.attached.keys }
     ensures { OnOk result (IsAfter changes.now current.old current.new) }
 {

@@ -218,7 +218,8 @@ fn a_lease_deletes_its_keys_in_one_revision(rt: HostRuntime) -> Result<(), Fail>
     assert_eq!(rt; store.tick(alloc, 1), Ok(8));
     assert_eq!(rt; all_keys(&mut store, alloc)?.as_slice(), b"".as_slice());
     let gone = pull(&mut store, alloc, b"cilium/synced/", 8, 9)?;
-    let want = b"8-cilium/synced/east/0-cilium/synced/east/1-cilium/synced/east/2-cilium/synced/east/3 8";
+    let want =
+        b"8-cilium/synced/east/0-cilium/synced/east/1-cilium/synced/east/2-cilium/synced/east/3 8";
     assert_eq!(rt; gone.as_slice(), want.as_slice());
     assert_eq!(rt; attach(&mut store, alloc, b"a", None), Ok(9));
     Ok(())
@@ -268,7 +269,10 @@ fn the_first_dead_lease_that_is_named_is_answered(rt: HostRuntime) -> Result<(),
         put(alloc, b"b", b"1", Some(8))?,
         put(alloc, b"c", b"1", Some(7))?,
     ];
-    assert_eq!(rt; store.commit(alloc, &ops), Err(StoreFault::NoLease { lease: 8 }));
+    assert_eq!(rt;
+        store.commit(alloc, &ops),
+        Err(StoreFault::NoLease { lease: 8 })
+    );
     assert_eq!(rt; all_keys(&mut store, alloc)?.as_slice(), b"".as_slice());
     Ok(())
 }
@@ -320,7 +324,12 @@ fn a_pull_has_the_changes_of_its_ranges_in_whole_revisions(rt: HostRuntime) -> R
     let _ = store.commit(alloc, &ops)?;
     let _ = attach(&mut store, alloc, b"w/b", None)?;
     for (prefix, from, most, want) in [
-        (b"e/".as_slice(), 1u64, 9u64, b"2+e/a 4+e/c-e/a 5".as_slice()),
+        (
+            b"e/".as_slice(),
+            1u64,
+            9u64,
+            b"2+e/a 4+e/c-e/a 5".as_slice(),
+        ),
         (b"e/".as_slice(), 2, 2, b"2+e/a 3".as_slice()),
         (b"e/".as_slice(), 3, 2, b"4+e/c-e/a 4".as_slice()),
         (b"w/".as_slice(), 3, 1, b"3+w/a 3".as_slice()),
@@ -330,7 +339,10 @@ fn a_pull_has_the_changes_of_its_ranges_in_whole_revisions(rt: HostRuntime) -> R
         (b"".as_slice(), 9, 3, b"8".as_slice()),
         (b"".as_slice(), 2, 0, b"1".as_slice()),
     ] {
-        assert_eq!(rt; pull(&mut store, alloc, prefix, from.max(1), most)?.as_slice(), want);
+        assert_eq!(rt;
+            pull(&mut store, alloc, prefix, from.max(1), most)?.as_slice(),
+            want
+        );
     }
     Ok(())
 }
@@ -342,12 +354,18 @@ fn a_pull_from_the_compacted_revision_is_refused(rt: HostRuntime) -> Result<(), 
     let _ = attach(&mut store, alloc, b"a", None)?;
     let _ = commit(&mut store, alloc, delete(alloc, b"a")?)?;
     assert_eq!(rt; store.compact(alloc, 2), Ok(2));
-    assert_eq!(rt; pull(&mut store, alloc, b"", 3, 1)?.as_slice(), b"3-a 3".as_slice());
+    assert_eq!(rt;
+        pull(&mut store, alloc, b"", 3, 1)?.as_slice(),
+        b"3-a 3".as_slice()
+    );
     assert_eq!(rt; store.compact(alloc, 9), Ok(3));
     assert_eq!(rt; store.compact(alloc, 1), Ok(3));
     let refused = Err(StoreFault::Compacted { compacted: 3 });
     assert_eq!(rt; pull(&mut store, alloc, b"", 3, 1), refused);
-    assert_eq!(rt; pull(&mut store, alloc, b"", 4, 1)?.as_slice(), b"3".as_slice());
+    assert_eq!(rt;
+        pull(&mut store, alloc, b"", 4, 1)?.as_slice(),
+        b"3".as_slice()
+    );
     assert_eq!(rt; all_keys(&mut store, alloc)?.as_slice(), b"".as_slice());
     Ok(())
 }

@@ -1,33 +1,52 @@
-use Rattle.std.proofs.Common.{ap, ◌+◌, ◌≡◌, ℕ, List, ◌∷◌, ◌++◌, [], ◌<◌, length, ◌∙◌, sym, subst, arith}
+use Rattle.std.proofs.Common.{◌≡◌, ◌<◌, ◌+◌, ◌++◌, ◌∷◌, [], List, Some, length, ap, ◌∙◌, sym, subst, refl, arith}
 use Rattle.std.proofs.lemmas.Bool.Decides.{nat_tests}
 use Rattle.std.proofs.lemmas.Grind.{common_steps}
 use Rattle.std.proofs.lemmas.List.{length-append}
-use Rattle.store_api.specs.History.{History}
-use Rattle.store_api.specs.declared.change.Revision.{Revision}
-use Rattle.memory_store.specs.Formed.{IsFormed}
-use Rattle.memory_store.specs.Kept.{log_of, HasLive}
-use Rattle.memory_store.specs.Stored.{history_of}
-use Rattle.memory_store.proofs.Forms.{commits_keep}
-use Rattle.memory_store.proofs.Logs.{history_length, history_committed, number_pushed, lives_pushed}
+use Rattle.store_api.specs.declared.change.Change.{Change}
+use Rattle.memory_store.specs.declared.live.Made.{Made}
+use Rattle.memory_store.specs.Entries.{Committed, contents_of}
+use Rattle.memory_store.specs.Kept.{IsAfter, IsCurrentIn, IsKept, history_in}
+use Rattle.memory_store.specs.Stored.{logged}
+use Rattle.memory_store.proofs.Calls.{contents_logged}
+use Rattle.memory_store.proofs.Keeping.{kept_committed, logged_is, revision_is}
 use Rattle.memory_store.proofs.store.MemoryStore.commit_as.Goals as goal
 
-pub returns-then-is_empty-clause-revision : goal.returns-then-is_empty-clause-revision
-returns-then-is_empty-clause-revision c = ap (λ (n : ℕ). n + 1) (c.len-at.ensures ∙ sym (history_length c.self.inside.history))
+changed : (c : goal.After-committed) → 0 < length c.from_vec-changes.result
+changed c = (let h = c.if-is_empty.ensures in grind (arith, common_steps, nat_tests))
+
+noted : (c : goal.After-committed) → c.committed.new.self ≡ c.self.inside.log ++ Committed c.args.writer c.from_vec-changes.result ∷ []
+noted c = c.committed.ensures ∙ ap (λ (changes : List Change). c.self.inside.log ++ Committed c.args.writer changes ∷ []) c.of-noted.ensures
+
+lives : (c : goal.After-committed) → IsCurrentIn (history_in c.self.inside.history.items) c.in_ok-current.current
+lives c = subst (λ (h : List Made). IsCurrentIn (history_in h) c.in_ok-current.current) c.as_slice.ensures.value c.in_ok-current.ensures
+
+log_is : (c : goal.After-committed) → c.committed.new.self ≡ logged c.self.inside.log c.args.writer c.args.ops.now
+log_is c = logged_is c.self.inside.log c.committed.new.self c.self.inside.history.items c.self.inside.compacted c.self.inside.leases c.self.inside.current c.self.invariant
+    c.args.writer c.from_vec-changes.result c.args.ops.now c.in_ok-current.current (noted c) (changed c) (c.from_vec-changes.ensures ∙ c.in_ok-changes.ensures) (lives c)
+
+kept : (c : goal.After-committed) → IsKept c.committed.new.self c.push.new.self.items c.self.inside.compacted c.self.inside.leases (Some c.apply_changes.new.current)
+kept c =
+    let made : Made = record { writer = c.args.writer; changes = c.from_vec-changes.result } in
+    let pushed : c.push.new.self.items ≡ c.self.inside.history.items ++ made ∷ [] = c.in_ok-push.ensures.items in
+    kept_committed c.self.inside.log c.committed.new.self c.self.inside.history.items c.self.inside.compacted c.self.inside.leases c.self.inside.current c.self.invariant
+    c.args.writer c.from_vec-changes.result c.args.ops.now c.in_ok-current.current (noted c) (changed c) (c.from_vec-changes.ensures ∙ c.in_ok-changes.ensures) (lives c)
+    made c.push.new.self.items c.apply_changes.new.current refl pushed
+    (subst (λ (changes : List Change). IsAfter changes c.in_ok-current.current c.apply_changes.new.current) (c.as_slice-2.ensures.value ∙ sym c.from_vec-changes.ensures) c.in_ok-apply_changes.ensures)
+    (omega (arith, ap length pushed, length-append c.self.inside.history.items (made ∷ []), c.len-at.ensures, c.self.inside.history.ok)) c.requires.distinct
 
 pub invariant_of-self-2 : goal.invariant_of-self-2
-invariant_of-self-2 c =
-    let r : Revision = record { number = c.len-at.result + 2; writer = c.args.writer; changes = c.from_vec-changes.result } in
-    let pushed : c.push.new.self ≡ c.self.inside.history ++ r ∷ [] = c.in_ok-push.ensures.ok in
-    let history : History = history_of (log_of c.self.inside.history) in
-    let lives : HasLive history c.in_ok-live.live = subst (λ (rs : List Revision). HasLive (history_of (log_of rs)) c.in_ok-live.live) c.as_slice.ensures c.in_ok-live.ensures in
-    let some : 0 < length c.from_vec-changes.result = (let h = c.if-is_empty.ensures in grind (arith, common_steps, nat_tests)) in
-    record {
-      few = omega (arith, ap length pushed, length-append c.self.inside.history (r ∷ []));
-      formed = subst IsFormed (sym (history_committed c.self.inside.history c.push.new.self r c.in_ok-live.live c.args.ops.now pushed (c.from_vec-changes.ensures ∙ c.in_ok-changes.ensures) some lives)) (commits_keep history c.args.ops.now c.self.invariant.formed c.requires.distinct);
-      current = lives_pushed c.self.inside.history c.push.new.self r c.as_slice-2.result.now c.in_ok-live.live c.apply_changes.new.live pushed (c.as_slice-2.ensures.value ∙ sym c.from_vec-changes.ensures) lives c.in_ok-apply_changes.ensures;
-    }
+invariant_of-self-2 c = kept c
+
+pub returns-clause-log : goal.returns-clause-log
+returns-clause-log c = rw (← c.self.view_is) (log_is c)
+
+pub returns-clause-contents : goal.returns-clause-contents
+returns-clause-contents c = rw (← c.self.view_is) (ap contents_of (log_is c) ∙ contents_logged c.self.inside.log c.args.writer c.args.ops.now)
 
 pub returns-clause-revision : goal.returns-clause-revision
 returns-clause-revision c =
-    let r : Revision = record { number = c.len-at.result + 2; writer = c.args.writer; changes = c.from_vec-changes.result } in
-    number_pushed c.self.inside.history c.push.new.self r c.len-at.result c.in_ok-push.ensures.ok c.len-at.ensures
+    let made : Made = record { writer = c.args.writer; changes = c.from_vec-changes.result } in
+    let pushed : c.push.new.self.items ≡ c.self.inside.history.items ++ made ∷ [] = c.in_ok-push.ensures.items in
+    let more : c.len-at.result + 2 ≡ c.len-at.result + 1 + 1 = omega arith in
+    more ∙ revision_is c.committed.new.self c.committed.new.self c.push.new.self.items c.self.inside.compacted c.self.inside.leases (Some c.apply_changes.new.current) (kept c) (c.len-at.result + 1)
+    (omega (arith, ap length pushed, length-append c.self.inside.history.items (made ∷ []), c.len-at.ensures, c.self.inside.history.ok))

@@ -1,27 +1,17 @@
-use Rattle.std.proofs.Common.{ap, ◌+◌, ℕ, List, ◌∙◌, sym, subst}
-use Rattle.store_api.specs.declared.change.Revision.{Revision}
-use Rattle.memory_store.specs.Kept.{log_of, HasLive}
-use Rattle.memory_store.specs.Stored.{history_of}
-use Rattle.memory_store.proofs.Logs.{history_length}
+use Rattle.std.proofs.Common.{List, ap, sym, subst, ◌∙◌, arith}
+use Rattle.store_api.specs.Contents.{Contents}
+use Rattle.store_api.specs.History.{listing_at, revision}
+use Rattle.memory_store.specs.declared.live.Made.{Made}
+use Rattle.memory_store.specs.Kept.{IsCurrentIn, history_in}
+use Rattle.memory_store.proofs.Keeping.{revision_is}
 use Rattle.memory_store.proofs.Sets.{is_listing}
 use Rattle.memory_store.proofs.store.MemoryStoreStore.list.Goals as goal
 
 pub returns-clause-listing : goal.returns-clause-listing
-returns-clause-listing c = record {
-  at = ap (λ (n : ℕ). n + 1) (c.len.ensures ∙ sym (history_length c.self.inside.history));
-  pairs = is_listing c.args.ranges.now.items (history_of (log_of c.self.inside.history)) c.in_ok-live.live _ c.in_ok-pairs.ensures (subst (λ (rs : List Revision). HasLive (history_of (log_of rs)) c.in_ok-live.live) c.as_slice.ensures c.in_ok-live.ensures);
-}
-
-pub invariant_of-self-in_err-pairs : goal.invariant_of-self-in_err-pairs
-invariant_of-self-in_err-pairs c = record {
-  few = c.self.invariant.few;
-  formed = c.self.invariant.formed;
-  current = subst (λ (rs : List Revision). HasLive (history_of (log_of rs)) c.in_ok-live.live) c.as_slice.ensures c.in_ok-live.ensures;
-}
-
-pub invariant_of-self-2 : goal.invariant_of-self-2
-invariant_of-self-2 c = record {
-  few = c.self.invariant.few;
-  formed = c.self.invariant.formed;
-  current = subst (λ (rs : List Revision). HasLive (history_of (log_of rs)) c.in_ok-live.live) c.as_slice.ensures c.in_ok-live.ensures;
-}
+returns-clause-listing c =
+    let lives : IsCurrentIn (history_in c.self.inside.history.items) c.in_ok-current.current = subst (λ (h : List Made). IsCurrentIn (history_in h) c.in_ok-current.current) c.as_slice.ensures.value c.in_ok-current.ensures in
+    record {
+      at = revision_is c.self.inside.log c.self.inside.log c.self.inside.history.items c.self.inside.compacted c.self.inside.leases c.self.inside.current c.self.invariant c.len.result (omega (arith, c.len.ensures, c.self.inside.history.ok));
+      pairs = is_listing c.args.ranges.now.items (history_in c.self.inside.history.items) c.in_ok-current.current.live _ c.in_ok-pairs.ensures lives.live
+          ∙ ap (λ (x : Contents). let h = x.history in listing_at c.args.ranges.now.items h (revision h)) (sym c.self.invariant.contents);
+    }
