@@ -1,9 +1,9 @@
 -- A call that the link refuses before it reaches the store.
-use Rattle.std.proofs.Common.{◌≡◌, ◌≢◌, ℕ, ◌+◌, [], refl, sym, ap, subst, ◌∙◌, arith, Err, inl, inr}
+use Rattle.std.proofs.Common.{◌≡◌, [], refl, sym, ap, subst, ◌∙◌, arith, Err, inl, inr}
 use Rattle.std.proofs.lemmas.List.{append-nil}
 use Rattle.store_api.specs.Contents.{Contents}
 use Rattle.store_api.specs.History.{History, Begins}
-use Rattle.store_api.specs.Meaning.{Meaning, Finds, Keeps, MayMake}
+use Rattle.store_api.specs.Meaning.{Meaning}
 use Rattle.store_api.specs.declared.change.StoreFault.TheVariants.{Lost}
 use Rattle.flaky_link.specs.Answers.{IsCall}
 use Rattle.flaky_link.specs.Link.{Link, fate, failed, linked, met}

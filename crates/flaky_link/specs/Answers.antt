@@ -1,6 +1,6 @@
 -- What each call of a store answers, over the contents that it left, and what it did to the store.
 -- Source: etcd's API, KV service (Range, Txn), Watch service and Lease service.
-use Rattle.std.specs.Prelude.{◌≡◌, ◌≢◌, ℕ, ◌≤◌, ◌<◌, ◌⊎◌, List, true, false, Option, None, Some, Result, Ok, Err, OnOk, IfOk, IfErr}
+use Rattle.std.specs.Prelude.{◌≡◌, ◌≢◌, ℕ, ◌≤◌, ◌<◌, ◌⊎◌, List, true, false, None, Some, Result, Err, OnOk, IfOk, IfErr}
 use Rattle.store_api.specs.Contents.{Contents, IsBatch, IsListing, after_commit, after_grant, after_keep_alive, dead_lease, unchanged}
 use Rattle.store_api.specs.History.{revision}
 use Rattle.store_api.specs.Leases.{is_live_lease}

@@ -1,7 +1,7 @@
 -- What comes of a call on a link before a store.
 -- Source: etcd, "KV API guarantees" (a failed call was applied whole or not at all); the plan that
 -- decides which is this project's own.
-use Rattle.std.specs.Prelude.{◌≡◌, Bool, true, false, if◌then◌else◌, Result, Ok, Err}
+use Rattle.std.specs.Prelude.{◌≡◌, Bool, true, false, if◌then◌else◌, Ok, Err}
 use Rattle.store_api.specs.Meaning.{Meaning}
 use Rattle.store_api.specs.declared.change.StoreFault.TheVariants.{Lost, Compacted, NoLease, Memory}
 use Rattle.flaky_link.specs.Answers.{Answer}
