@@ -15,6 +15,7 @@ pub use Rattle.key_paths.proofs.FrontLemmas.{starts-sound, starts-append, front_
 pub use Rattle.key_paths.proofs.Sound.{key_of-sound}
 pub use Rattle.key_paths.proofs.Complete.{key_of-key_bytes, key_of-complete}
 pub use Rattle.key_paths.proofs.Moves.{moved-front, moved-sound, moved-complete, moved-back, is_some-moved, moved-in_record_ranges}
+pub use Rattle.key_paths.proofs.ReadAlike.{moved-alike}
 pub use Rattle.key_paths.proofs.Ownership.{owned_by_one, front_at-record_front, front_of-range, kind_of-range}
 
 -- the bytes of each key by its cluster's words

@@ -6,5 +6,6 @@ pub mod Sound
 pub mod Complete
 pub mod Moves
 pub mod Ownership
+pub mod ReadAlike
 pub mod FrontLemmas
 pub mod CallerLemmas

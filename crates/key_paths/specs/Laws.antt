@@ -1,16 +1,22 @@
 -- What beginnings, reading, writing, ranges and the mapping have to do with each other.
-use Rattle.std.specs.Prelude.{◌≡◌, ◌↔◌, ℕ, List, ◌++◌, IsTrue, Some, Ok, is_some, nat_eq}
+use Rattle.std.specs.Prelude.{◌≡◌, ◌↔◌, ℕ, List, ◌++◌, IsTrue, Some, Ok, is_some, nat_eq, codes, decimal, None}
 use Rattle.std.specs.List.{starts_with}
+use Rattle.mesh_text.specs.declared.ip.Ip.{Ip}
 use Rattle.mesh_text.specs.declared.kind.Kind.{Kind}
+use Rattle.mesh_text.specs.declared.kind.Kind.TheVariants.{Nodes, Services, Identities, Addresses}
+use Rattle.mesh_text.specs.Addresses.{address_text}
 use Rattle.store_api.specs.History.{in_ranges}
 use Rattle.key_paths.specs.declared.hop.Hop.{Hop}
+use Rattle.key_paths.specs.declared.hop.Hop.TheVariants.{State, Cache}
 use Rattle.key_paths.specs.declared.front.Front.{Front}
 use Rattle.key_paths.specs.declared.key.Key.{Key}
+use Rattle.key_paths.specs.declared.key.Key.TheVariants as key
 use Rattle.key_paths.specs.Beginnings.{beginning}
-use Rattle.key_paths.specs.Paths.{record_front, record_ranges, own_ranges}
+use Rattle.key_paths.specs.Paths.{config_key, cut_key, mark_key, record_front, record_ranges, own_ranges}
 use Rattle.key_paths.specs.Keys.{IsClusterName, IsKey, IsKeyOf, key_bytes, kind_of, hop_of}
 use Rattle.key_paths.specs.Reading.{key_of}
 use Rattle.key_paths.specs.Mapping.{moved}
+use Rattle.key_paths.specs.Alike.{hopless}
 
 -- the bytes begin so
 abbrev pub BeginsWith : List ℕ → List ℕ → Type 0
@@ -78,3 +84,31 @@ MapsIntoRecordRanges = (from to : Hop) (cluster bytes image : List ℕ)
 abbrev pub MovesBack : Type 0
 MovesBack = (from to : Hop) (cluster bytes image : List ℕ)
     → moved from to cluster bytes ≡ Some image → moved to from cluster image ≡ Some bytes
+
+-- a key and its image are read alike, as keys of the same record or with the same kind of fault
+abbrev pub ReadsImagesAlike : Type 0
+ReadsImagesAlike = (from to : Hop) (cluster bytes image : List ℕ)
+    → IsClusterName cluster → moved from to cluster bytes ≡ Some image
+    → hopless (key_of image) ≡ hopless (key_of bytes)
+
+-- the bytes of each key by the words of its cluster
+pub record SpellsKeys (cluster : List ℕ) : Type 0 where
+  pub config : key_bytes (key.Config cluster) ≡ config_key cluster
+  pub cut : key_bytes (key.Cut cluster) ≡ cut_key cluster
+  pub mark : (hop : Hop) (kind : Kind)
+      → key_bytes (key.Synced cluster hop kind) ≡ mark_key cluster hop kind
+  pub node : (hop : Hop) (node : List ℕ)
+      → key_bytes (key.Node hop cluster node) ≡ record_front hop Nodes cluster ++ node
+  pub service : (hop : Hop) (namespace name : List ℕ)
+      → key_bytes (key.Service hop cluster namespace name)
+      ≡ record_front hop Services cluster ++ (namespace ++ (codes "/" ++ name))
+  pub identity : (number : ℕ)
+      → key_bytes (key.Identity None number) ≡ record_front State Identities cluster ++ decimal number
+  pub cached_identity : (number : ℕ)
+      → key_bytes (key.Identity (Some cluster) number)
+      ≡ record_front Cache Identities cluster ++ decimal number
+  pub address : (ip : Ip)
+      → key_bytes (key.Address None ip) ≡ record_front State Addresses cluster ++ address_text ip
+  pub cached_address : (ip : Ip)
+      → key_bytes (key.Address (Some cluster) ip)
+      ≡ record_front Cache Addresses cluster ++ address_text ip

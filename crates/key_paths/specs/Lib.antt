@@ -4,4 +4,5 @@ pub mod Keys
 pub mod Reading
 pub mod Parts
 pub mod Mapping
+pub mod Alike
 pub mod Laws

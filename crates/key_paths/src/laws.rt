@@ -1,4 +1,5 @@
-ghost use Rattle.key_paths.specs.Laws.{NoBeginningOfAnother, HaveOneBeginning, ReadsKeysAlone, ReadsWrittenKeys, WritesReadKeys, HasKindOfRange, OwnedByOneCluster, ExchangesFronts, MapsRecordKeysAlone, MapsIntoRecordRanges, MovesBack};
+ghost use Rattle.std.specs.Prelude.{List, ℕ};
+ghost use Rattle.key_paths.specs.Laws.{NoBeginningOfAnother, HaveOneBeginning, ReadsKeysAlone, ReadsWrittenKeys, WritesReadKeys, HasKindOfRange, OwnedByOneCluster, ExchangesFronts, MapsRecordKeysAlone, MapsIntoRecordRanges, MovesBack, ReadsImagesAlike, SpellsKeys};
 
 /// No fixed beginning is the beginning of another, so bytes have at most one of them.
 pub fn no_beginning_of_another()
@@ -46,4 +47,15 @@ pub fn maps_record_ranges()
 /// The mapping back undoes the mapping.
 pub fn moves_back()
     ensures { MovesBack }
+{}
+
+/// A key and its image are read alike: as keys of the same record, or with the same kind of fault.
+pub fn reads_images_alike()
+    ensures { ReadsImagesAlike }
+{}
+
+/// The bytes of each key by the words of its cluster: the config's, the cut's and the marks' keys,
+/// and the fronts of records.
+pub fn spells_keys()
+    ensures { (cluster : List ℕ) → SpellsKeys cluster }
 {}

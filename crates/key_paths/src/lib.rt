@@ -1,7 +1,10 @@
 //! The keys of a cluster mesh: their grammar, the ranges that a reader follows, and the mapping between the two hops.
 //!
-//! `hop` and `key` are what a key says, `fault` why bytes are none, `front` the fixed beginnings.
-//! It knows nothing of values, records or stores.
+//! `hop` and `key` are what a key says, `fault` why bytes are none, `front` the fixed beginnings and
+//! `words` the words of a kind's path. `parts` splits a key and reads single parts, `read` and
+//! `write` are a key from bytes and back, `paths` has the ranges of a cluster, and `mapping` its
+//! keys at the other hop. `laws` says what these have to do with each other.
+//! It knows nothing of values, and a store is for it a list of ranges.
 #![tactic(auto)]
 
 mod fault;
@@ -23,7 +26,7 @@ pub use hop::Hop;
 pub use key::Key;
 pub use laws::{
     exchanges_fronts, has_kind_of_range, maps_record_ranges, moves_back, no_beginning_of_another,
-    owned_by_one_cluster, reads_keys_alone, reads_written_keys,
+    owned_by_one_cluster, reads_images_alike, reads_keys_alone, reads_written_keys, spells_keys,
 };
 pub use mapping::{to_cache, to_state};
 pub use mesh_text::Kind;
