@@ -98,6 +98,22 @@ fn keys(listing: &Listing, alloc: Global) -> Result<Vec<u8>, Memory> {
     Ok(keys)
 }
 
+// One transaction of two changes.
+fn put_and_delete(store: &mut MemoryStore, alloc: Global) -> Result<u64, StoreFault> {
+    let ops = [put(alloc, b"e/c", b"1", None)?, delete(alloc, b"e/a")?];
+    store.commit(alloc, &ops)
+}
+
+// One transaction under the leases 1, 8 and 7.
+fn put_three(store: &mut MemoryStore, alloc: Global) -> Result<u64, StoreFault> {
+    let ops = [
+        put(alloc, b"a", b"1", Some(1))?,
+        put(alloc, b"b", b"1", Some(8))?,
+        put(alloc, b"c", b"1", Some(7))?,
+    ];
+    store.commit(alloc, &ops)
+}
+
 #[test]
 fn deleting_an_absent_key_adds_no_revision(rt: HostRuntime) -> Result<(), Fail> {
     let alloc = rt.alloc();
@@ -264,15 +280,8 @@ fn the_first_dead_lease_that_is_named_is_answered(rt: HostRuntime) -> Result<(),
     let alloc = rt.alloc();
     let mut store = MemoryStore::new(alloc);
     assert_eq!(rt; store.grant(alloc, 5), Ok(1));
-    let ops = [
-        put(alloc, b"a", b"1", Some(1))?,
-        put(alloc, b"b", b"1", Some(8))?,
-        put(alloc, b"c", b"1", Some(7))?,
-    ];
-    assert_eq!(rt;
-        store.commit(alloc, &ops),
-        Err(StoreFault::NoLease { lease: 8 })
-    );
+    let dead = StoreFault::NoLease { lease: 8 };
+    assert_eq!(rt; put_three(&mut store, alloc), Err(dead));
     assert_eq!(rt; all_keys(&mut store, alloc)?.as_slice(), b"".as_slice());
     Ok(())
 }
@@ -320,8 +329,7 @@ fn a_pull_has_the_changes_of_its_ranges_in_whole_revisions(rt: HostRuntime) -> R
     let mut store = MemoryStore::new(alloc);
     let _ = attach(&mut store, alloc, b"e/a", None)?;
     let _ = attach(&mut store, alloc, b"w/a", None)?;
-    let ops = [put(alloc, b"e/c", b"1", None)?, delete(alloc, b"e/a")?];
-    let _ = store.commit(alloc, &ops)?;
+    let _ = put_and_delete(&mut store, alloc)?;
     let _ = attach(&mut store, alloc, b"w/b", None)?;
     for (prefix, from, most, want) in [
         (
