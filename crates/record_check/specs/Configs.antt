@@ -1,4 +1,6 @@
 -- Whether a cluster's config fits the mesh.
+-- Source: Cilium's ClusterMesh documentation (a cluster's number is from 1 to
+-- `maxConnectedClusters`, which all clusters of a mesh have alike).
 use Rattle.std.specs.Prelude.{ℕ, ◌==◌, not, List, [], ◌∷◌, Option, Result, Ok, Err}
 use Rattle.std.specs.Result.{result_ok}
 use Rattle.mesh_records.specs.declared.fault.ReadFault.{ReadFault}

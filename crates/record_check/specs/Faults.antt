@@ -1,4 +1,5 @@
--- Rows of a table of faults, and the first that holds.
+-- Rows of a table of faults, and the first that holds. The faults and their order are this
+-- control plane's own, as is the size of a value (etcd's own limit of a request is larger).
 use Rattle.std.specs.Prelude.{◌≡◌, ℕ, Bool, false, not, List, [], ◌∷◌, length, nat_le, Option, None, Some, Result, Ok, Err, if◌then◌else◌}
 use Rattle.key_paths.specs.declared.fault.KeyFault.TheVariants as key_fault
 use Rattle.mesh_records.specs.declared.fault.ReadFault.{ReadFault}

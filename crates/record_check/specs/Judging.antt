@@ -1,4 +1,6 @@
 -- Whether what a pair says fits the cluster that it came from, and its key.
+-- Source: Cilium's ClusterMesh documentation (each cluster has a name and a number of its own, and
+-- its records say them) and its numeric identities; the order of the faults is our own.
 use Rattle.std.specs.Prelude.{ℕ, List, [], ◌∷◌, ◌++◌, nat_eq, bytes_eq, Bool, Option, None, Some, option_map, Result, Ok, Err}
 use Rattle.std.specs.Ordering.{is_eq}
 use Rattle.std.specs.Result.{result_ok}

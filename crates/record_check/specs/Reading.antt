@@ -1,4 +1,5 @@
 -- What a pair says by its bytes alone: a record under the key of one, or the first fault.
+-- Source: Cilium's kvstore key formats, where the key tells which kind of record the value is.
 use Rattle.std.specs.Prelude.{◌≡◌, ℕ, List, [], ◌∷◌, Option, None, Some, Result, Ok, Err}
 use Rattle.mesh_text.specs.declared.kind.Kind.{Kind}
 use Rattle.mesh_text.specs.declared.kind.Kind.TheVariants as kind

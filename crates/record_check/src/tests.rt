@@ -1,6 +1,9 @@
+ghost use Rattle.std.specs.Prelude.{IfOk};
+ghost use Rattle.record_check.specs.Reading.{IsOfKind};
+
 use crate::{Fault, Limit, check, check_config, judge, read_pair};
-use key_paths::KeyFault;
-use mesh_records::ReadFault;
+use key_paths::{Key, KeyFault};
+use mesh_records::{ReadFault, Record};
 use mesh_text::ClusterName;
 use std::alloc::{AllocError, Global};
 use std::test::Fail;
@@ -53,6 +56,23 @@ fn word(fault: &Fault) -> &'static str {
 fn answer<T>(checked: &Result<T, Fault>) -> &'static str {
     match checked {
         Ok(_) => "ok",
+        Err(fault) => word(fault),
+    }
+}
+
+fn judgement(fault: &Option<Fault>) -> &'static str {
+    match fault {
+        Some(fault) => word(fault),
+        None => "ok",
+    }
+}
+
+/// What a reading is judged as for a cluster with this name and number.
+fn judged(cluster: &ClusterName, id: u32, reading: &Result<(Key, Record), Fault>) -> &'static str
+    requires { IfOk reading.now (λ pair. IsOfKind pair.0 pair.1) }
+{
+    match reading {
+        Ok((key, record)) => judgement(&judge(cluster, id, Limit::Small, key, record)),
         Err(fault) => word(fault),
     }
 }
@@ -361,14 +381,7 @@ fn what_was_read_is_judged_for_the_cluster_that_it_came_from(rt: HostRuntime) ->
     for (cluster, id, expected) in cases {
         let cluster = ClusterName::read(alloc, cluster.as_bytes())?;
         let reading = read_pair(alloc, NODE.as_bytes(), value.as_bytes())?;
-        assert_eq!(rt; answer(&reading), "ok");
-        if let Ok((key, record)) = reading {
-            let fault = match judge(&cluster, id, Limit::Small, &key, &record) {
-                Some(fault) => word(&fault),
-                None => "ok",
-            };
-            assert_eq!(rt; fault, expected);
-        }
+        assert_eq!(rt; judged(&cluster, id, &reading), expected);
     }
     Ok(())
 }
