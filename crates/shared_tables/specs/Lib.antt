@@ -1,0 +1,6 @@
+pub mod Rows
+pub mod RecordSets
+pub mod Admission
+pub mod Merge
+pub mod Told
+pub mod Examples
