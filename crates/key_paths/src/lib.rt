@@ -8,8 +8,18 @@ mod fault;
 mod front;
 mod hop;
 mod key;
+mod mapping;
+mod parts;
+mod paths;
+mod read;
+mod words;
+mod write;
 
 pub use fault::KeyFault;
 pub use hop::Hop;
 pub use key::Key;
+pub use mapping::{to_cache, to_state};
 pub use mesh_text::Kind;
+pub use paths::ranges;
+pub use read::read_key;
+pub use write::write_key;
