@@ -4,3 +4,4 @@ pub mod Admission
 pub mod Merge
 pub mod Told
 pub mod Examples
+pub mod Merged

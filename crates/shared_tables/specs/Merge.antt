@@ -79,11 +79,13 @@ address_row_by cluster (Address address) =
     record { ip = address.ip; cluster = cluster; identity = address.id; host = address.host; namespace = address.namespace; pod = address.pod } ∷ []
 address_row_by cluster _ = []
 
+abbrev pub backend_row : List ℕ → List ℕ → List ℕ → BackendPort → BackendRow
+backend_row cluster namespace name backend =
+    record { namespace = namespace; name = name; cluster = cluster; backend = backend }
+
 abbrev pub backend_rows_by : List ℕ → Key → Record → List BackendRow
 backend_rows_by cluster (key.Service hop named namespace name) (Service service) =
-    if service.shared
-    then map (λ (backend : BackendPort). record { namespace = namespace; name = name; cluster = cluster; backend = backend }) service.backends
-    else []
+    if service.shared then map (backend_row cluster namespace name) service.backends else []
 backend_rows_by cluster _ _ = []
 
 -- a node's row

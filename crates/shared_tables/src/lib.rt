@@ -8,7 +8,11 @@
 //! It knows nothing of stores, readers or texts.
 #![tactic(auto)]
 
+mod admission;
 mod change;
+mod copies;
+mod merged;
+mod merging;
 mod rows;
 mod source;
 mod standing;
