@@ -1,0 +1,6 @@
+pub mod Weights
+mod Arrivals
+mod Fits
+mod Merges
+mod Gathered
+mod Places

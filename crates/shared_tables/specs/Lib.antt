@@ -5,3 +5,5 @@ pub mod Merge
 pub mod Told
 pub mod Examples
 pub mod Merged
+pub mod Fitting
+pub mod Least

@@ -32,8 +32,11 @@ pub record Told : Type 0 where
   pub limit : Limit
   pub sources : List SourceTold
 
+abbrev pub readings : List (List ℕ × Reading) → Readings
+readings pairs = from_entries pairs
+
 abbrev pub source_told : Source → SourceTold
-source_told s = record { name = s.name; config = s.config; rows = from_entries s.rows.entries }
+source_told s = record { name = s.name; config = s.config; rows = readings s.rows.entries }
 
 -- what the tables were told
 abbrev pub told : Tables → Told

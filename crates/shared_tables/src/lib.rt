@@ -11,13 +11,18 @@
 mod admission;
 mod change;
 mod copies;
+mod least;
 mod merged;
 mod merging;
+mod reporting;
 mod rows;
 mod source;
 mod standing;
+mod sources;
 mod steps;
 mod tables;
+mod telling;
+mod walks;
 
 pub use change::{Reading, RecordChange, Row};
 pub use rows::{

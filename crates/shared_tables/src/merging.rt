@@ -117,7 +117,7 @@ fn push_service(
 }
 
 /// The rows of a valid record.
-fn push_valid(
+pub(crate) fn push_valid(
     alloc: Global,
     merged: &mut Merged,
     cluster: &ClusterName,

@@ -2,6 +2,7 @@ ghost use Rattle.std.specs.Prelude.{◌≤◌, nat_eq};
 ghost use Rattle.std.specs.Cmp.Lexicographic.{pointwise};
 ghost use Rattle.std.proofs.Props.{props};
 ghost use Rattle.indexmap.specs.IndexMap.{spare, IsUnique};
+ghost use Rattle.shared_tables.specs.Fitting.{AreFit};
 
 use crate::change::Reading;
 use indexmap::IndexMap;
@@ -21,4 +22,5 @@ pub(crate) struct Source {
     pub room: usize,
     ghost reserved: { room ≤ spare rows },
     ghost unique: { IsUnique (pointwise nat_eq) rows } by { Prim.hlevel props },
+    ghost fit: { AreFit rows } by { Prim.hlevel props },
 }
