@@ -62,7 +62,8 @@ impl Tables {
         ensures err { OnErr result (rooms self.new ≡ rooms self.old) }
     {
         let source = &mut self.sources[change.source as usize];
-        source.reserve(rows_needed(change))
+        source.reserve(rows_needed(change))?;
+        Ok(())
     }
 
     /// Changes one key's row, where there is room. It takes no memory, and one step at most.
