@@ -1,6 +1,8 @@
+pub mod CallerLemmas
 pub mod Weights
-mod Arrivals
+pub mod Arrivals
 mod Fits
 mod Merges
 mod Gathered
+mod Orders
 mod Places

@@ -63,7 +63,7 @@ module _ {X : Type 0} (rows_of : Standing → RecordSet → List X) (alike : (st
 same_parts : (limit : Limit) (local : ℕ) (sources : List Source) → SameRows (parts limit local (map set_of sources)) (parts limit local (map arrived sources))
 same_parts limit local sources = each (part limit) (same_part limit) local sources sources
 
-same_least : (xs ys : List Claim) → SameRows xs ys → SameRows (least_claims xs) (least_claims ys)
+pub same_least : (xs ys : List Claim) → SameRows xs ys → SameRows (least_claims xs) (least_claims ys)
 same_least xs ys h = subst (λ (test : Claim → Bool). SameRows (filter (is_least xs) xs) (filter test ys)) (fun_ext (λ c. ap not (list_any-SameRows (is_before c) xs ys h))) (SameRows-filter (is_least xs) xs ys h)
 
 pub least_is : (xs : List Claim) (least : BTreeMap Ip ℕ) → TellsOf xs least → filter (λ (c : Claim). not (has_lesser least c)) xs ≡ least_claims xs

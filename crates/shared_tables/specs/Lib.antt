@@ -7,3 +7,4 @@ pub mod Examples
 pub mod Merged
 pub mod Fitting
 pub mod Least
+pub mod Laws

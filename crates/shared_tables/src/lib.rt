@@ -11,6 +11,7 @@
 mod admission;
 mod change;
 mod copies;
+mod laws;
 mod least;
 mod merged;
 mod merging;
@@ -22,9 +23,12 @@ mod sources;
 mod steps;
 mod tables;
 mod telling;
+#[cfg(test)]
+mod tests;
 mod walks;
 
 pub use change::{Reading, RecordChange, Row};
+pub use laws::order_says_nothing;
 pub use rows::{
     AddressRow, BackendRow, IdentityRow, NodeRow, RejectRow, Report, SourceRow, Why,
 };
