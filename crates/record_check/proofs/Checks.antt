@@ -1,15 +1,12 @@
 -- Checking a pair in two steps.
-use Rattle.std.proofs.Common.{◌≡◌, ℕ, ◌<◌, List, [], ◌∷◌, ◌++◌, Option, None, Some, Result, Ok, Err, refl, sym, ap, ◌∙◌, arith, rules}
+use Rattle.std.proofs.Common.{◌≡◌, ℕ, List, [], ◌∷◌, ◌++◌, Option, None, Some, Result, Ok, Err, refl, ◌∙◌}
 use Rattle.key_paths.specs.declared.key.Key.{Key}
-use Rattle.mesh_text.specs.declared.kind.Kind.{Kind}
-use Rattle.key_paths.specs.declared.fault.KeyFault.{KeyFault}
-use Rattle.mesh_records.specs.declared.fault.ReadFault.{ReadFault}
 use Rattle.mesh_records.specs.declared.records.Record.{Record}
 use Rattle.record_check.specs.declared.limit.Limit.{Limit}
 use Rattle.record_check.specs.declared.fault.Fault.{Fault}
 use Rattle.record_check.specs.Faults.{Row, first_fault, unless}
 use Rattle.record_check.specs.Reading.{reading_rows, said, reading_of}
-use Rattle.record_check.specs.Judging.{judging_rows, judgement, rows_of_said, pair_rows, pair_fault, record_in, checked, judged_by}
+use Rattle.record_check.specs.Judging.{judgement, rows_of_said, pair_fault, record_in, checked, judged_by}
 
 -- the first fault of rows and further rows
 pub first_fault-append : {A : Type 0} (rows more : List Row) (answer : Result A Fault)

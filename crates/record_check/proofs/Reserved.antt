@@ -1,13 +1,11 @@
 -- An address with a reserved identity is of no cluster alone.
-use Rattle.std.proofs.Common.{◌≡◌, ℕ, ◌<◌, List, None, nat_lt, true, refl, nat_eq, sym, ap, ◌∙◌, arith}
+use Rattle.std.proofs.Common.{◌≡◌, ℕ, ◌<◌, List, None, refl, arith}
 use Rattle.key_paths.specs.declared.key.Key.{Key}
 use Rattle.mesh_records.specs.declared.records.Record.TheVariants as found
 use Rattle.mesh_records.specs.Values.{Address}
 use Rattle.record_check.specs.declared.limit.Limit.{Limit}
-use Rattle.record_check.specs.declared.fault.Fault.TheVariants as fault
 use Rattle.record_check.specs.Limits.{first_own_identity, cluster_owning}
-use Rattle.record_check.specs.Faults.{fault_if, first_fault, differ}
-use Rattle.record_check.specs.Judging.{judgement, same_ip, ip_in_key}
+use Rattle.record_check.specs.Judging.{judgement}
 
 pub owned_by_none : (limit : Limit) (identity : ℕ) → identity < first_own_identity → cluster_owning limit identity ≡ None
 owned_by_none limit identity h = grind arith

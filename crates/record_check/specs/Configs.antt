@@ -1,5 +1,5 @@
 -- Whether a cluster's config fits the mesh.
-use Rattle.std.specs.Prelude.{ℕ, ◌==◌, not, List, [], ◌∷◌, ◌++◌, Option, None, Some, Result, Ok, Err}
+use Rattle.std.specs.Prelude.{ℕ, ◌==◌, not, List, [], ◌∷◌, Option, Result, Ok, Err}
 use Rattle.std.specs.Result.{result_ok}
 use Rattle.mesh_records.specs.declared.fault.ReadFault.{ReadFault}
 use Rattle.mesh_records.specs.Values.{Config}

@@ -1,5 +1,5 @@
 -- Whether what a pair says fits the cluster that it came from, and its key.
-use Rattle.std.specs.Prelude.{ℕ, List, [], ◌∷◌, ◌++◌, ◌==◌, nat_eq, bytes_eq, Bool, Option, None, Some, option_map, Result, Ok, Err}
+use Rattle.std.specs.Prelude.{ℕ, List, [], ◌∷◌, ◌++◌, nat_eq, bytes_eq, Bool, Option, None, Some, option_map, Result, Ok, Err}
 use Rattle.std.specs.Ordering.{is_eq}
 use Rattle.std.specs.Result.{result_ok}
 use Rattle.mesh_text.specs.declared.ip.Ip.{Ip}

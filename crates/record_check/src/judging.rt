@@ -106,7 +106,9 @@ pub fn judge(
         (Key::Node { node, .. }, Record::Node(found)) => node_fault(cluster, id, node, found),
         (
             Key::Service {
-                namespace, name, ..
+                namespace,
+                name,
+                ..
             },
             Record::Service(found),
         ) => service_fault(cluster, id, namespace, name, found),

@@ -14,11 +14,16 @@ mod judging;
 mod laws;
 mod limit;
 mod reading;
+#[cfg(test)]
+mod tests;
 
 pub use checking::check;
 pub use configs::check_config;
 pub use fault::Fault;
 pub use judging::judge;
-pub use laws::{checks_by_judging, reserved_fit_every_cluster};
+pub use laws::{
+    checks_by_judging, checks_configs_first_fault, checks_first_fault, reads_first_fault,
+    reads_keys_in_ranges, reserved_fit_every_cluster,
+};
 pub use limit::Limit;
 pub use reading::read_pair;

@@ -1,7 +1,6 @@
 // A pair by its bytes alone.
 ghost use Rattle.std.specs.Prelude.{◌≡◌, IfOk, IfErr, Ok, Err, Some};
 ghost use Rattle.key_paths.specs.Keys.{kind_of};
-ghost use Rattle.key_paths.specs.Reading.{key_of};
 ghost use Rattle.mesh_records.specs.Record.{record_of};
 ghost use Rattle.mesh_records.specs.declared.fault.ReadFault.TheVariants as read_fault;
 ghost use Rattle.key_paths.specs.declared.fault.KeyFault.TheVariants as key_fault;
@@ -10,18 +9,10 @@ ghost use Rattle.record_check.specs.Reading.{record_key_of, reading_of, kind_of_
 
 use crate::fault::Fault;
 use crate::limit::LONGEST_VALUE;
-use key_paths::{Key, KeyFault, Kind};
+use key_paths::{Key, KeyFault, Kind, read_key};
 use mesh_base::Memory;
 use mesh_records::{ReadFault, Record, read_record};
 use std::alloc::Global;
-
-ghost use Rattle.key_paths.specs.Reading.{Gives};
-
-fn read_key(_alloc: Global, bytes: &[u8]) -> Result<Key, KeyFault>
-    ensures { Gives result (key_of bytes.now) }
-{
-    Err(KeyFault::Memory)
-}
 
 /// The kind of record that a key is of, if it is one of a record.
 fn kind_of(key: &Key) -> Option<Kind>
