@@ -9,7 +9,7 @@ use Rattle.shared_tables.specs.Told.{SourceTold, IsChange, IsRow}
 pub use Rattle.shared_tables.proofs.Weights.{SameRows-refl, SameRows-append, SameRows-flat_map, SameRows-map, SameRows-filter, list_any-SameRows}
 pub use Rattle.shared_tables.proofs.Arrivals.{same_entries}
 
-the_row : (key : List ℕ) (reading : Reading) (row : Row) → Some {A = Row} (record { key = key; reading = reading }) ≡ Some row → row ≡ record { key = key; reading = reading }
+the_row : (key : List ℕ) (reading : Reading) (row : Row) → ◌≡◌ {A = Option Row} (Some (record { key = key; reading = reading })) (Some row) → row ≡ record { key = key; reading = reading }
 the_row key reading row e = cc
 
 -- the first row of a key, as it is read, is a change of a source that holds none

@@ -17,7 +17,7 @@ use Rattle.shared_tables.specs.Rows.{SameRows}
 use Rattle.shared_tables.proofs.Merges.{same_least}
 use Rattle.shared_tables.proofs.Weights.{SameRows-flat_map, SameRows-map, list_any-SameRows}
 
-joined : {X : Type 0} {as xs ys bs : List X} → SameRows xs as → SameRows xs ys → SameRows ys bs → SameRows as bs
+joined : {X : Type 0} {us xs ys vs : List X} → SameRows xs us → SameRows xs ys → SameRows ys vs → SameRows us vs
 joined a middle b = record { weigh = λ weight. sym (a.weigh weight) ∙ middle.weigh weight ∙ b.weigh weight }
 
 module _ (local : ℕ) (sets others : List RecordSet) (h : SameRows sets others) where

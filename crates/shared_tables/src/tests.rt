@@ -1,8 +1,8 @@
-ghost use Rattle.std.specs.Prelude.{◌≡◌, ◌<◌, length, slice_get, IsTrue, None};
+ghost use Rattle.std.specs.Prelude.{◌≡◌, ◌<◌, ◌∷◌, [], codes, map, length, slice_get, IfOk, IsTrue, None};
 ghost use Rattle.std.specs.FinMap.{get};
 ghost use Rattle.std.specs.Option.{ForSome};
 ghost use Rattle.shared_tables.specs.RecordSets.{is_record_key};
-ghost use Rattle.shared_tables.specs.Told.{told};
+ghost use Rattle.shared_tables.specs.Told.{nothing_told, told};
 
 use crate::change::{RecordChange, Row};
 use crate::rows::{Report, Why};
@@ -17,7 +17,9 @@ use std::marker::Brand;
 use std::sync::ledger::{Blank, Ledger};
 use std::test::Fail;
 
-fn cluster_name(alloc: Global, text: &str) -> Result<ClusterName, Memory> {
+fn cluster_name(alloc: Global, text: &str) -> Result<ClusterName, Memory>
+    ensures { IfOk result (λ name. name ≡ text.now) }
+{
     match ClusterName::read(alloc, text.as_bytes()) {
         Ok(name) => Ok(name),
         Err(_) => Err(Memory),
@@ -328,5 +330,43 @@ fn tell<L: Ledger>(
     };
     tables.reserve(&change)?;
     tables.apply(change, steps);
+    Ok(())
+}
+
+/// Tables with one source, told a config and a node.
+fn tables_of_east(alloc: Global) -> Result<Tables, Memory>
+    ensures { IfOk result (λ t. (told t).sources ≡ nothing_told (codes "east") ∷ []) }
+{
+    let local = cluster_name(alloc, "home")?;
+    let east = cluster_name(alloc, "east")?;
+    Tables::new(alloc, local, 9, Limit::Small, vec![in alloc; east]?)
+}
+
+fn tell_counted<L: Ledger>(alloc: Global, blank: Blank) -> Result<Bytes, Memory>
+    requires name { blank.name ≡ L.name }
+    requires parts { blank.parts ≡ L.parts }
+    requires some { 0 < blank.parts }
+{
+    let mut steps = Steps::<L>::new(blank);
+    let mut tables = tables_of_east(alloc)?;
+    tell(
+        alloc,
+        &mut tables,
+        "cilium/state/nodes/v1/east/n1",
+        "{\"Name\":\"n1\",\"Cluster\":\"east\",\"ClusterID\":1}",
+        &mut steps,
+    )?;
+    let before = tables.report(alloc, &mut steps)?;
+    lines(alloc, &before)
+}
+
+fn told_lines(alloc: Global) -> Result<Bytes, Memory> {
+    tell_counted::<Brand>(alloc, Blank::new(1))
+}
+
+#[test]
+fn a_row_of_a_source_without_config_is_not_shown(rt: HostRuntime) -> Result<(), Fail> {
+    let text = told_lines(rt.alloc())?;
+    assert_eq!(rt; text.as_slice(), b"".as_slice());
     Ok(())
 }
