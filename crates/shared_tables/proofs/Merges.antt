@@ -105,7 +105,7 @@ pub is_report : (limit : Limit) (local : ℕ) (sources walked : List Source) (me
     → IsMerge limit local (map set_told (map source_told sources)) (record { sources = none; nodes = merged.nodes; identities = merged.identities; addresses = addresses; backends = merged.backends; chosen = unchosen; rejects = merged.rejects })
 is_report limit local sources walked merged none addresses unchosen same found no_sources shown no_chosen =
     let all : merged ≡ with_rows nothing_merged (parts limit local (map arrived sources)) (reject_rows limit local (map arrived sources)) =
-        found ∙ ap (λ (xs : List Source). with_rows nothing_merged (parts limit local (map arrived xs)) (reject_rows limit local (map arrived xs))) same in
+    found ∙ ap (λ (xs : List Source). with_rows nothing_merged (parts limit local (map arrived xs)) (reject_rows limit local (map arrived xs))) same in
     let report : Report = record { sources = none; nodes = merged.nodes; identities = merged.identities; addresses = addresses; backends = merged.backends; chosen = unchosen; rejects = merged.rejects } in
     subst (λ (sets : List RecordSet). IsMerge limit local sets report) (told_sets sources) (is_merge limit local sources report no_sources
     (ap (λ (m : Merged). m.nodes) all) (ap (λ (m : Merged). m.identities) all)

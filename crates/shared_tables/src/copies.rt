@@ -66,10 +66,18 @@ fn copy_read_fault(fault: &ReadFault) -> Result<ReadFault, Memory>
     Ok(match fault {
         ReadFault::Json => ReadFault::Json,
         ReadFault::Shape => ReadFault::Shape,
-        ReadFault::Missing { field } => ReadFault::Missing { field: field.clone()? },
-        ReadFault::WrongType { field } => ReadFault::WrongType { field: field.clone()? },
-        ReadFault::Range { field } => ReadFault::Range { field: field.clone()? },
-        ReadFault::AddressText { field } => ReadFault::AddressText { field: field.clone()? },
+        ReadFault::Missing { field } => ReadFault::Missing {
+            field: field.clone()?,
+        },
+        ReadFault::WrongType { field } => ReadFault::WrongType {
+            field: field.clone()?,
+        },
+        ReadFault::Range { field } => ReadFault::Range {
+            field: field.clone()?,
+        },
+        ReadFault::AddressText { field } => ReadFault::AddressText {
+            field: field.clone()?,
+        },
         ReadFault::Mask => ReadFault::Mask,
         ReadFault::Label { at } => ReadFault::Label { at: *at },
         ReadFault::Memory => ReadFault::Memory,

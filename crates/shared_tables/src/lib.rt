@@ -18,8 +18,8 @@ mod merging;
 mod reporting;
 mod rows;
 mod source;
-mod standing;
 mod sources;
+mod standing;
 mod steps;
 mod tables;
 mod telling;
@@ -29,8 +29,6 @@ mod walks;
 
 pub use change::{Reading, RecordChange, Row};
 pub use laws::order_says_nothing;
-pub use rows::{
-    AddressRow, BackendRow, IdentityRow, NodeRow, RejectRow, Report, SourceRow, Why,
-};
+pub use rows::{AddressRow, BackendRow, IdentityRow, NodeRow, RejectRow, Report, SourceRow, Why};
 pub use steps::Steps;
 pub use tables::Tables;

@@ -106,7 +106,11 @@ fn push_service(
     ensures { OnOk result (rows.new ≡ rows.old ++ merge.backend_rows_by cluster.now key.now (records.Service service.now)) }
 {
     match key {
-        Key::Service { namespace, name, .. } => {
+        Key::Service {
+            namespace,
+            name,
+            ..
+        } => {
             if service.shared {
                 push_backends(rows, cluster, namespace, name, service.backends.as_slice())?;
             }

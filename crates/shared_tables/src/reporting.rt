@@ -21,14 +21,16 @@ impl Tables {
     /// whose number is least, and one for each faulty pair of an admitted source and for each
     /// config that is faulty or not admitted. It is made anew at each call, and each pair that is
     /// read is one step. It costs little more than one look at each row.
-    pub fn report<L: Ledger>(
-        &self,
-        alloc: Global,
-        steps: &mut Steps<L>,
-    ) -> Result<Report, Memory>
+    pub fn report<L: Ledger>(&self, alloc: Global, steps: &mut Steps<L>) -> Result<Report, Memory>
         ensures { IfOk result (IsMerge (told self.now).limit (told self.now).number (sets (told self.now))) }
     {
-        let merged = merge_all(alloc, self.limit, self.number, self.sources.as_slice(), steps)?;
+        let merged = merge_all(
+            alloc,
+            self.limit,
+            self.number,
+            self.sources.as_slice(),
+            steps,
+        )?;
         let Merged {
             nodes,
             identities,

@@ -1,10 +1,6 @@
-ghost use Rattle.std.specs.Prelude.{◌≡◌, ◌<◌, ◌∷◌, [], codes, map, length, slice_get, IfOk, IsTrue, None};
-ghost use Rattle.std.specs.FinMap.{get};
-ghost use Rattle.std.specs.Option.{ForSome};
-ghost use Rattle.shared_tables.specs.RecordSets.{is_record_key};
-ghost use Rattle.shared_tables.specs.Told.{nothing_told, told};
+ghost use Rattle.std.specs.Prelude.{◌≡◌, ◌<◌, IfOk};
 
-use crate::change::{RecordChange, Row};
+use crate::change::Row;
 use crate::rows::{Report, Why};
 use crate::source::Source;
 use crate::steps::Steps;
@@ -68,40 +64,29 @@ fn word(why: &Why) -> &'static str {
     }
 }
 
-fn push_words(out: &mut Bytes, words: &[&[u8]]) -> Result<(), Memory> {
-    for word in words {
-        out.extend_from_slice(word)?;
-        out.push(b' ')?;
-    }
-    out.push(b'\n')?;
+fn push_word(out: &mut Bytes, word: &[u8]) -> Result<(), Memory> {
+    out.extend_from_slice(word)?;
+    out.push(b' ')?;
     Ok(())
 }
 
 fn push_nodes(alloc: Global, out: &mut Bytes, report: &Report) -> Result<(), Memory> {
     for row in report.nodes.as_slice() {
         let count = row.addresses.len().to_string(alloc)?;
-        push_words(
-            out,
-            &[
-                b"node".as_slice(),
-                row.cluster.as_bytes(),
-                row.name.as_bytes(),
-                count.as_bytes(),
-            ],
-        )?;
+        push_word(out, b"node")?;
+        push_word(out, row.cluster.as_bytes())?;
+        push_word(out, row.name.as_bytes())?;
+        push_word(out, count.as_bytes())?;
+        out.push(b'\n')?;
     }
     for row in report.identities.as_slice() {
         let number = row.number.to_string(alloc)?;
         let count = row.labels.len().to_string(alloc)?;
-        push_words(
-            out,
-            &[
-                b"identity".as_slice(),
-                row.cluster.as_bytes(),
-                number.as_bytes(),
-                count.as_bytes(),
-            ],
-        )?;
+        push_word(out, b"identity")?;
+        push_word(out, row.cluster.as_bytes())?;
+        push_word(out, number.as_bytes())?;
+        push_word(out, count.as_bytes())?;
+        out.push(b'\n')?;
     }
     Ok(())
 }
@@ -110,29 +95,21 @@ fn push_addresses(alloc: Global, out: &mut Bytes, report: &Report) -> Result<(),
     for row in report.addresses.as_slice() {
         let ip = write_ip(alloc, row.ip)?;
         let identity = row.identity.to_string(alloc)?;
-        push_words(
-            out,
-            &[
-                b"address".as_slice(),
-                ip.as_slice(),
-                row.cluster.as_bytes(),
-                identity.as_bytes(),
-            ],
-        )?;
+        push_word(out, b"address")?;
+        push_word(out, ip.as_slice())?;
+        push_word(out, row.cluster.as_bytes())?;
+        push_word(out, identity.as_bytes())?;
+        out.push(b'\n')?;
     }
     for row in report.backends.as_slice() {
         let ip = write_ip(alloc, row.backend.ip)?;
-        push_words(
-            out,
-            &[
-                b"backend".as_slice(),
-                row.namespace.as_bytes(),
-                row.name.as_bytes(),
-                row.cluster.as_bytes(),
-                ip.as_slice(),
-                row.backend.port_name.as_bytes(),
-            ],
-        )?;
+        push_word(out, b"backend")?;
+        push_word(out, row.namespace.as_bytes())?;
+        push_word(out, row.name.as_bytes())?;
+        push_word(out, row.cluster.as_bytes())?;
+        push_word(out, ip.as_slice())?;
+        push_word(out, row.backend.port_name.as_bytes())?;
+        out.push(b'\n')?;
     }
     Ok(())
 }
@@ -143,15 +120,11 @@ fn lines(alloc: Global, report: &Report) -> Result<Bytes, Memory> {
     push_nodes(alloc, &mut out, report)?;
     push_addresses(alloc, &mut out, report)?;
     for row in report.rejects.as_slice() {
-        push_words(
-            &mut out,
-            &[
-                b"reject".as_slice(),
-                row.cluster.as_bytes(),
-                row.key.as_slice(),
-                word(&row.why).as_bytes(),
-            ],
-        )?;
+        push_word(&mut out, b"reject")?;
+        push_word(&mut out, row.cluster.as_bytes())?;
+        push_word(&mut out, row.key.as_slice())?;
+        push_word(&mut out, word(&row.why).as_bytes())?;
+        out.push(b'\n')?;
     }
     Ok(out)
 }
@@ -223,7 +196,10 @@ fn each_kind_of_record_has_its_rows(rt: HostRuntime) -> Result<(), Fail> {
         ],
     )?;
     let text = report(alloc, 9, vec![in alloc; east]?)?;
-    assert_eq!(rt; text.as_slice(), b"node east n1 1 \nidentity east 68714 2 \naddress 10.1.0.7 east 68714 \nbackend shop web east 10.1.0.7 http \n".as_slice());
+    assert_eq!(rt;
+        text.as_slice(),
+        b"node east n1 1 \nidentity east 68714 2 \naddress 10.1.0.7 east 68714 \nbackend shop web east 10.1.0.7 http \n".as_slice()
+    );
     Ok(())
 }
 
@@ -244,7 +220,10 @@ fn a_faulty_pair_of_an_admitted_source_is_rejected(rt: HostRuntime) -> Result<()
         ],
     )?;
     let text = report(alloc, 9, vec![in alloc; east]?)?;
-    assert_eq!(rt; text.as_slice(), b"node east n1 0 \nreject east cilium/state/nodes/v1/east/n2 name \nreject east cilium/state/identities/v1/id/68714 read \n".as_slice());
+    assert_eq!(rt;
+        text.as_slice(),
+        b"node east n1 0 \nreject east cilium/state/nodes/v1/east/n2 name \nreject east cilium/state/identities/v1/id/68714 read \n".as_slice()
+    );
     Ok(())
 }
 
@@ -292,9 +271,21 @@ fn an_address_is_shown_for_the_cluster_with_the_least_number(rt: HostRuntime) ->
     let key = "cilium/state/ip/v1/default/10.0.0.5";
     let cases = [
         // east has the number 1, then 5, and then no config; west has 2
-        ("{\"id\":1}", "{\"IP\":\"10.0.0.5\",\"ID\":65792}", "address 10.0.0.5 east 65792 \n"),
-        ("{\"id\":5}", "{\"IP\":\"10.0.0.5\",\"ID\":327936}", "address 10.0.0.5 west 131328 \n"),
-        ("", "{\"IP\":\"10.0.0.5\",\"ID\":65792}", "address 10.0.0.5 west 131328 \n"),
+        (
+            "{\"id\":1}",
+            "{\"IP\":\"10.0.0.5\",\"ID\":65792}",
+            "address 10.0.0.5 east 65792 \n",
+        ),
+        (
+            "{\"id\":5}",
+            "{\"IP\":\"10.0.0.5\",\"ID\":327936}",
+            "address 10.0.0.5 west 131328 \n",
+        ),
+        (
+            "",
+            "{\"IP\":\"10.0.0.5\",\"ID\":65792}",
+            "address 10.0.0.5 west 131328 \n",
+        ),
     ];
     for (config, value, expected) in cases {
         let west = source(
@@ -307,66 +298,5 @@ fn an_address_is_shown_for_the_cluster_with_the_least_number(rt: HostRuntime) ->
         let text = report(alloc, 9, vec![in alloc; west, east]?)?;
         assert_eq!(rt; text.as_slice(), expected.as_bytes());
     }
-    Ok(())
-}
-
-/// Tells a row of the first source for a key that has none.
-fn tell<L: Ledger>(
-    alloc: Global,
-    tables: &mut Tables,
-    key: &str,
-    value: &str,
-    steps: &mut Steps<L>,
-) -> Result<(), Memory>
-    requires source { 0 < length (told tables.old).sources }
-    requires absent { ForSome (slice_get (told tables.old).sources 0) (λ s. (get s.rows key.now ≡ None) × IsTrue (is_record_key s.name key.now)) }
-{
-    let reading = read_pair(alloc, key.as_bytes(), value.as_bytes())?;
-    let key = Bytes::from_slice(alloc, key.as_bytes())?;
-    let change = RecordChange {
-        source: 0,
-        old: None,
-        new: Some(Row { key, reading }),
-    };
-    tables.reserve(&change)?;
-    tables.apply(change, steps);
-    Ok(())
-}
-
-/// Tables with one source, told a config and a node.
-fn tables_of_east(alloc: Global) -> Result<Tables, Memory>
-    ensures { IfOk result (λ t. (told t).sources ≡ nothing_told (codes "east") ∷ []) }
-{
-    let local = cluster_name(alloc, "home")?;
-    let east = cluster_name(alloc, "east")?;
-    Tables::new(alloc, local, 9, Limit::Small, vec![in alloc; east]?)
-}
-
-fn tell_counted<L: Ledger>(alloc: Global, blank: Blank) -> Result<Bytes, Memory>
-    requires name { blank.name ≡ L.name }
-    requires parts { blank.parts ≡ L.parts }
-    requires some { 0 < blank.parts }
-{
-    let mut steps = Steps::<L>::new(blank);
-    let mut tables = tables_of_east(alloc)?;
-    tell(
-        alloc,
-        &mut tables,
-        "cilium/state/nodes/v1/east/n1",
-        "{\"Name\":\"n1\",\"Cluster\":\"east\",\"ClusterID\":1}",
-        &mut steps,
-    )?;
-    let before = tables.report(alloc, &mut steps)?;
-    lines(alloc, &before)
-}
-
-fn told_lines(alloc: Global) -> Result<Bytes, Memory> {
-    tell_counted::<Brand>(alloc, Blank::new(1))
-}
-
-#[test]
-fn a_row_of_a_source_without_config_is_not_shown(rt: HostRuntime) -> Result<(), Fail> {
-    let text = told_lines(rt.alloc())?;
-    assert_eq!(rt; text.as_slice(), b"".as_slice());
     Ok(())
 }

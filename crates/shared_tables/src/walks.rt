@@ -62,7 +62,12 @@ fn push_pair(
     ensures { OnOk result (merged.new ≡ with_rows merged.old (valid_of limit cluster.now number reading.now) (pair_reject limit cluster.now number (key.now, reading.now))) }
 {
     match reading {
-        Err(fault) => push_reject(merged, cluster, key.clone()?, Why::Fault(copy_fault(fault)?)),
+        Err(fault) => push_reject(
+            merged,
+            cluster,
+            key.clone()?,
+            Why::Fault(copy_fault(fault)?),
+        ),
         Ok((read, value)) => match judge(cluster, number, limit, read, value) {
             Some(fault) => push_reject(merged, cluster, key.clone()?, Why::Fault(fault)),
             None => push_valid(alloc, merged, cluster, number, read, value),

@@ -9,4 +9,4 @@ abbrev pub invariant-loop-key : goal.invariant-loop-key
 invariant-loop-key g l =
     (AllByRecursion (λ pair. is_fit pair.1 ≡ true) l.key-iterator)
     × (with_rows l.merged (flat_map (λ pair. valid_of l.limit l.cluster l.number pair.1) l.key-iterator) (flat_map (pair_reject l.limit l.cluster l.number) l.key-iterator)
-      ≡ with_rows l.fn.merged (flat_map (λ pair. valid_of l.limit l.cluster l.number pair.1) l.rows.entries) (flat_map (pair_reject l.limit l.cluster l.number) l.rows.entries))
+    ≡ with_rows l.fn.merged (flat_map (λ pair. valid_of l.limit l.cluster l.number pair.1) l.rows.entries) (flat_map (pair_reject l.limit l.cluster l.number) l.rows.entries))

@@ -1,4 +1,0 @@
-use Rattle.shared_tables.proofs.tests.told_lines.Given as goal
-
-abbrev pub ghosts-tell_counted : goal.ghosts-tell_counted
-ghosts-tell_counted a = record { name = a.blank.name; parts = a.blank.parts }
