@@ -1,10 +1,11 @@
 //! The rows that the sources of a cluster mesh give together: admission, and the merge of their records.
 //!
 //! `change` is what the tables are told, `rows` what a report of them has, `steps` a count that
-//! contracts alone see. `source` keeps what was told of one source and `tables` what was told of
-//! all. `admission` says how a source stands among all, `valid` which of its pairs are valid
-//! there, `walks` makes the rows of each kind, and `least` the row of an address that several
-//! sources have.
+//! contracts alone see. `source` and `sources` keep what was told of one source, `tables`,
+//! `telling` and `reporting` what was told of all. `standing` and `admission` say how a source
+//! stands among all, `walks` goes over the pairs of all sources, and `merging` makes the rows of a
+//! valid record, which `merged` holds. `least` finds the row of an address that several sources
+//! have, `copies` copies what is shown, and `laws` says that order means nothing.
 //! It knows nothing of stores, readers or texts.
 #![tactic(auto)]
 
