@@ -1,0 +1,10 @@
+pub mod Rows
+pub mod RecordSets
+pub mod Admission
+pub mod Merge
+pub mod Told
+pub mod Examples
+pub mod Merged
+pub mod Fitting
+pub mod Least
+pub mod Laws
