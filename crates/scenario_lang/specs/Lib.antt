@@ -1,0 +1,6 @@
+pub mod Judgement
+pub mod Split
+pub mod Forms
+pub mod Shapes
+pub mod Table
+pub mod Lines
