@@ -1,1 +1,5 @@
 mod Examples
+mod Names
+mod Splits
+mod NameTexts
+mod Fits

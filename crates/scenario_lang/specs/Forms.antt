@@ -1,7 +1,7 @@
 -- The forms of a word: what Words judges in it, and what it says or which fault it has.
 -- The language is this project's own; names of clusters are Cilium's, names of nodes, namespaces and
 -- pods those of Kubernetes, addresses RFC 4291's, labels after Cilium's identities in the kvstore.
-use Rattle.std.specs.Prelude.{ℕ, ◌-◌, ◌^◌, ◌&&◌, Bool, true, false, is_some, nat_lt, nat_le, bytes_eq, List, length, codes, Option, Some, None, option_and_then, position, Result, Ok, Err, if◌then◌else◌}
+use Rattle.std.specs.Prelude.{ℕ, ◌-◌, ◌^◌, ◌&&◌, Bool, true, false, is_some, nat_lt, nat_le, bytes_eq, List, length, map, codes, Option, Some, None, option_and_then, position, Result, Ok, Err, if◌then◌else◌}
 use Rattle.mesh_base.specs.Order.{same_bytes}
 use Rattle.mesh_text.specs.declared.ip.Ip.{Ip}
 use Rattle.mesh_text.specs.Names.{is_cluster_name, is_part_name}
@@ -16,11 +16,15 @@ use Rattle.scenario_lang.specs.declared.kinds.LineKind.{LineKind}
 use Rattle.scenario_lang.specs.declared.kinds.LineKind.TheVariants as kind
 use Rattle.scenario_lang.specs.declared.scenario.Count.{Count}
 use Rattle.scenario_lang.specs.declared.scenario.Count.TheVariants as count
+use Rattle.scenario_lang.specs.declared.scenario.Remote.{Remote}
 use Rattle.scenario_lang.specs.Judgement.{◌>>=◌, or_fault}
 
 -- the names of the remotes so far, in order
 abbrev pub Names : Type 0
 Names = List (List ℕ)
+
+abbrev pub names_of : List Remote → Names
+names_of remotes = map (λ r. r.name) remotes
 
 -- whether a word has the look that Words judges in a whole line, before anything else of it; and
 -- what a word of that look says, or its fault
@@ -72,16 +76,13 @@ abbrev pub has_bytes : Option (List ℕ) → Bool
 has_bytes None = false
 has_bytes (Some bytes) = nat_lt 0 (length bytes)
 
-abbrev pub labels_in : List ℕ → Option IdentityRecord
-labels_in bytes = value_in (identity_of bytes)
-  where
-    value_in : {E : Type 0} → Result IdentityRecord E → Option IdentityRecord
-    value_in (Ok labels) = Some labels
-    value_in (Err fault) = None
+abbrev pub read_in : {A E : Type 0} → Result A E → Option A
+read_in (Ok x) = Some x
+read_in (Err fault) = None
 
 -- the labels that an escaped word writes
 abbrev pub labels_of : List ℕ → Option IdentityRecord
-labels_of word = option_and_then labels_in (unescaped word)
+labels_of word = option_and_then (λ bytes. read_in (identity_of bytes)) (unescaped word)
 
 -- The forms.
 

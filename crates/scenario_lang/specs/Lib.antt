@@ -4,3 +4,4 @@ pub mod Forms
 pub mod Shapes
 pub mod Table
 pub mod Lines
+pub mod Answers

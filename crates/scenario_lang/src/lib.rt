@@ -8,10 +8,16 @@
 //! It knows nothing of stores, of what an action does or of reports.
 #![tactic(auto)]
 
+mod draft;
 mod entry;
+mod fitting;
 mod kinds;
+mod remotes;
 mod scenario;
+mod splitting;
+mod stops;
 mod verb;
+mod words;
 
 pub use kinds::{LineFault, LineKind, Mode};
 pub use scenario::{Action, Cluster, Count, Pod, RawWrite, Remote, Scenario, Withdrawn};
