@@ -1,10 +1,9 @@
 -- What the reader of a part answers.
-use Rattle.std.specs.Prelude.{◌≡◌, ◌||◌, ℕ, zero, suc, Bool, List, ◌++◌, codes, Result, Ok, Err}
+use Rattle.std.specs.Prelude.{◌≡◌, ℕ, zero, suc, Bool, List, ◌++◌, Result, Ok, Err}
 use Rattle.scenario_lang.specs.declared.stops.Stop.{Stop}
 use Rattle.scenario_lang.specs.declared.stops.Stop.TheVariants as stop
 use Rattle.scenario_lang.specs.Judgement.{◌>>=◌}
-use Rattle.scenario_lang.specs.Forms.{key, value}
-use Rattle.scenario_lang.specs.Shapes.{no_words, passes, word, one, ◌▸◌}
+use Rattle.scenario_lang.specs.Shapes.{no_words, passes}
 
 -- a stop for this fault, or for want of memory
 abbrev pub Fails : {F A : Type 0} → Stop F → Result A F → Type 0
@@ -24,7 +23,3 @@ has (suc n) ws = passes ws (λ w more. has n more)
 -- what is read behind a front
 abbrev pub with_front : {A F : Type 0} → List A → Result (List A) F → Result (List A) F
 with_front front read = read >>= λ xs. Ok (front ++ xs)
-
--- the words behind the remote of a raw write
-abbrev pub is_write : List (List ℕ) → Bool
-is_write ws = (word (codes "put") (key ▸ one value)).fits ws || (word (codes "delete") (one key)).fits ws

@@ -1,10 +1,14 @@
 -- The language as a table: the first word of each line, where such a line stands, and its parameters.
 use Rattle.std.specs.Prelude.{ℕ, Bool, true, false, List, [], ◌∷◌, codes, Option, Some, None, find, bytes_eq}
+use Rattle.mesh_text.specs.declared.ip.Ip.{Ip}
 use Rattle.scenario_lang.specs.declared.entry.Entry.{Entry}
 use Rattle.scenario_lang.specs.declared.entry.Entry.TheVariants as entry
 use Rattle.scenario_lang.specs.declared.scenario.Action.{Action}
 use Rattle.scenario_lang.specs.declared.scenario.Action.TheVariants as action
+use Rattle.scenario_lang.specs.declared.scenario.Pod.{Pod}
+use Rattle.scenario_lang.specs.declared.scenario.RawWrite.{RawWrite}
 use Rattle.scenario_lang.specs.declared.scenario.RawWrite.TheVariants as raw
+use Rattle.scenario_lang.specs.declared.scenario.Withdrawn.{Withdrawn}
 use Rattle.scenario_lang.specs.declared.scenario.Withdrawn.TheVariants as withdrawn
 use Rattle.scenario_lang.specs.declared.verb.Verb.{Verb}
 use Rattle.scenario_lang.specs.declared.verb.Verb.TheVariants as verb
@@ -37,19 +41,26 @@ node_line = makes (λ p. action.Node p.0 p.1.0 p.1.1) (remote ▸ part ▸ many 
 abbrev pub identity_line : Shape Action
 identity_line = makes (λ p. action.Identity p.0 p.1.0 p.1.1) (remote ▸ identity ▸ one labels)
 
--- address <remote> <address> <identity> <host or ->, and then nothing or <namespace> <pod>
-abbrev pub address_line : Shape Action
-address_line = or
-    (makes (λ p. action.Address p.0 p.1.0 p.1.1.0 p.1.1.1 None) (remote ▸ address ▸ identity ▸ one host))
-    (makes (λ p. action.Address p.0 p.1.0 p.1.1.0 p.1.1.1.0 (Some (record { namespace = p.1.1.1.1.0; name = p.1.1.1.1.1 })))
-    (remote ▸ address ▸ identity ▸ host ▸ part ▸ one part))
+-- <host or ->, and then nothing or <namespace> <pod>
+abbrev pub host_and_pod : Shape (Option Ip × Option Pod)
+host_and_pod = or
+    (makes (λ at. (at, None)) (one host))
+    (makes (λ p. (p.0, Some (record { namespace = p.1.0; name = p.1.1 }))) (host ▸ part ▸ one part))
 
--- withdraw <remote> node <name>, withdraw <remote> identity <identity>, or withdraw <remote> address <address>
+-- address <remote> <address> <identity>, and then the host and the pod
+abbrev pub address_line : Shape Action
+address_line = makes (λ p. action.Address p.0 p.1.0 p.1.1.0 p.1.1.1.0 p.1.1.1.1) (remote ▸ address ▸ identity ▸ host_and_pod)
+
+-- node <name>, identity <identity>, or address <address>
+abbrev pub withdrawn_record : Shape Withdrawn
+withdrawn_record = or
+    (word (codes "node") (makes withdrawn.Node (one part)))
+    (or (word (codes "identity") (makes withdrawn.Identity (one identity)))
+    (word (codes "address") (makes withdrawn.Address (one address))))
+
+-- withdraw <remote>, and then the record
 abbrev pub withdraw_line : Shape Action
-withdraw_line = or
-    (makes (λ p. action.Withdraw p.0 (withdrawn.Node p.1)) (remote ▸ word (codes "node") (one part)))
-    (or (makes (λ p. action.Withdraw p.0 (withdrawn.Identity p.1)) (remote ▸ word (codes "identity") (one identity)))
-    (makes (λ p. action.Withdraw p.0 (withdrawn.Address p.1)) (remote ▸ word (codes "address") (one address))))
+withdraw_line = makes (λ p. action.Withdraw p.0 p.1) (remote ▸ withdrawn_record)
 
 -- start <remote>
 abbrev pub start_line : Shape Action
@@ -67,11 +78,15 @@ keep_line = makes action.Keep (one remote)
 abbrev pub export_line : Shape Action
 export_line = makes (λ p. action.Export p.0 p.1) (remote ▸ one count_or_all)
 
--- raw <remote> put <key> <value>, or raw <remote> delete <key>
+-- put <key> <value>, or delete <key>
+abbrev pub raw_write : Shape RawWrite
+raw_write = or
+    (word (codes "put") (makes (λ p. raw.Put p.0 p.1) (key ▸ one value)))
+    (word (codes "delete") (makes raw.Delete (one key)))
+
+-- raw <remote>, and then the write
 abbrev pub raw_line : Shape Action
-raw_line = or
-    (makes (λ p. action.Raw p.0 (raw.Put p.1.0 p.1.1)) (remote ▸ word (codes "put") (key ▸ one value)))
-    (makes (λ p. action.Raw p.0 (raw.Delete p.1)) (remote ▸ word (codes "delete") (one key)))
+raw_line = makes (λ p. action.Raw p.0 p.1) (remote ▸ raw_write)
 
 -- tick <seconds>
 abbrev pub tick_line : Shape Action
@@ -79,7 +94,7 @@ tick_line = makes action.Tick (one seconds)
 
 -- turn agent <remote> all
 abbrev pub turn_line : Shape Action
-turn_line = makes (λ p. action.Turn p.0) (word (codes "agent") (remote ▸ word (codes "all") none))
+turn_line = word (codes "agent") (makes (λ p. action.Turn p.0) (remote ▸ word (codes "all") none))
 
 -- report
 abbrev pub report_line : Shape Action

@@ -2,7 +2,7 @@
 ghost use Rattle.std.specs.Prelude.{◌≡◌, ◌&&◌, IfOk, bytes_eq, codes, is_some, true};
 ghost use Rattle.std.specs.List.{list_all};
 ghost use Rattle.mesh_text.specs.Escapes.{unescaped};
-ghost use Rattle.scenario_lang.specs.Answers.{has, is_write};
+ghost use Rattle.scenario_lang.specs.Answers.{has};
 ghost use Rattle.scenario_lang.specs.Forms.{has_bytes, labels_of};
 ghost use Rattle.scenario_lang.specs.Shapes.{no_words, passes};
 ghost use Rattle.scenario_lang.specs.Split.{words};
@@ -17,7 +17,7 @@ use std::alloc::Global;
 
 /// There are so many words, and no more.
 #[tactic(auto, using(crate::proofs::Fits::has_more, crate::proofs::Fits::has_none))]
-fn has_words(rest: &[u8], count: usize) -> bool
+pub(crate) fn has_words(rest: &[u8], count: usize) -> bool
     ensures { result ≡ has count (words rest.now) }
 {
     let mut left = rest;
@@ -31,7 +31,7 @@ fn has_words(rest: &[u8], count: usize) -> bool
 }
 
 /// There is this word first, and then so many.
-fn begins_with(rest: &[u8], text: &str, count: usize) -> bool
+pub(crate) fn begins_with(rest: &[u8], text: &str, count: usize) -> bool
     ensures { result ≡ passes (words rest.now) (λ w more. bytes_eq w text.now && has count more) }
 {
     match next_word(rest) {
@@ -111,10 +111,26 @@ fn fits_identity(alloc: Global, rest: &[u8]) -> Result<bool, Memory>
     }
 }
 
+/// There is a host, and then nothing or a pod.
+fn fits_host(rest: &[u8]) -> bool
+    ensures { result ≡ table.host_and_pod.fits (words rest.now) }
+{
+    has_words(rest, 1) || has_words(rest, 3)
+}
+
 fn fits_address(rest: &[u8]) -> bool
     ensures { result ≡ table.address_line.fits (words rest.now) }
 {
-    has_words(rest, 4) || has_words(rest, 6)
+    let Some((_, rest)) = next_word(rest) else {
+        return false;
+    };
+    let Some((_, rest)) = next_word(rest) else {
+        return false;
+    };
+    match next_word(rest) {
+        Some((_, rest)) => fits_host(rest),
+        None => false,
+    }
 }
 
 fn fits_withdraw(rest: &[u8]) -> bool
@@ -160,7 +176,7 @@ fn ends_with_key(alloc: Global, rest: &[u8]) -> Result<bool, Memory>
 /// There is a write behind the remote.
 #[tactic(auto, using(crate::proofs::Fits::put_or_delete))]
 fn is_write(alloc: Global, rest: &[u8]) -> Result<bool, Memory>
-    ensures { IfOk result (λ b. b ≡ is_write (words rest.now)) }
+    ensures { IfOk result (λ b. b ≡ table.raw_write.fits (words rest.now)) }
 {
     let Some((word, rest)) = next_word(rest) else {
         return Ok(false);

@@ -8,6 +8,7 @@
 //! It knows nothing of stores, of what an action does or of reports.
 #![tactic(auto)]
 
+mod actions;
 mod draft;
 mod entry;
 mod fitting;
