@@ -1,5 +1,6 @@
 -- Where a name stands in a list that has one name more.
-use Rattle.std.proofs.Common.{◌≡◌, ℕ, ◌+◌, Bool, true, false, cond, List, [], ◌∷◌, ◌++◌, length, Option, Some, None, refl, sym, ap, ◌∙◌, subst, arith}
+use Rattle.std.specs.List.{list_any}
+use Rattle.std.proofs.Common.{bytes_eq, is_some, ◌||◌, ◌≡◌, ℕ, ◌+◌, Bool, true, false, cond, List, [], ◌∷◌, ◌++◌, length, Option, Some, None, refl, sym, ap, ◌∙◌, subst, arith}
 use Rattle.std.specs.List.{position, position_from}
 use Rattle.std.specs.Ordering.{nat_cmp, is_eq}
 use Rattle.std.specs.Cmp.Lexicographic.{slice_cmp}
@@ -58,3 +59,27 @@ found_with names name key copy fresh q old is =
 
 pub names_length : (remotes : List Remote) → length (names_of remotes) ≡ length remotes
 names_length remotes = length-map remotes (λ r. r.name)
+
+-- the test of equal bytes that slices have
+pub same_is : (a b : List ℕ) → same_bytes a b ≡ bytes_eq a b
+same_is = is_eq-slice_cmp
+
+somewhere : (p : List ℕ → Bool) (i : ℕ) (xs : List (List ℕ)) → is_some (position_from p i xs) ≡ list_any p xs
+somewhere p i [] = refl
+somewhere p i (x ∷ xs) = by (p x) (somewhere p (i + 1) xs)
+  where
+    by : (b : Bool) → is_some (position_from p (i + 1) xs) ≡ list_any p xs → is_some (cond b (Some i) (position_from p (i + 1) xs)) ≡ b || list_any p xs
+    by true more = refl
+    by false more = more
+
+-- a name that has a place is one of the names
+pub placed : (p : List ℕ → Bool) (xs : List (List ℕ)) → is_some (position p xs) ≡ list_any p xs
+placed p xs = let e : position p xs ≡ position_from p 0 xs = position_from-zero p xs in rw e (somewhere p 0 xs)
+
+-- and one that is none of the names has no place
+pub unplaced : (p : List ℕ → Bool) (xs : List (List ℕ)) → list_any p xs ≡ false → position p xs ≡ None
+unplaced p xs none = by (position p xs) (placed p xs ∙ none)
+  where
+    by : (o : Option ℕ) → is_some o ≡ false → o ≡ None
+    by None e = refl
+    by (Some i) e = absurd (let h : true ≡ false = e in cc)

@@ -141,11 +141,35 @@ pub(crate) fn withdraw(alloc: Global, remotes: &Remotes, rest: &[u8]) -> Result<
 }
 
 /// The only word, which names a remote.
-pub(crate) fn lone_remote(alloc: Global, remotes: &Remotes, rest: &[u8]) -> Result<usize, Stop<LineKind>>
+fn lone_remote(alloc: Global, remotes: &Remotes, rest: &[u8]) -> Result<usize, Stop<LineKind>>
     ensures { Gives result ((one forms.remote).says (names_of remotes.now) (words rest.now)) }
 {
     let (word, _) = first_word(rest)?;
     remote_place(alloc, remotes, word)
+}
+
+pub(crate) fn start(alloc: Global, remotes: &Remotes, rest: &[u8]) -> Result<Action, Stop<LineKind>>
+    ensures { Gives result (table.start_line.says (names_of remotes.now) (words rest.now)) }
+{
+    Ok(Action::Start {
+        remote: lone_remote(alloc, remotes, rest)?,
+    })
+}
+
+pub(crate) fn stop(alloc: Global, remotes: &Remotes, rest: &[u8]) -> Result<Action, Stop<LineKind>>
+    ensures { Gives result (table.stop_line.says (names_of remotes.now) (words rest.now)) }
+{
+    Ok(Action::Stop {
+        remote: lone_remote(alloc, remotes, rest)?,
+    })
+}
+
+pub(crate) fn keep(alloc: Global, remotes: &Remotes, rest: &[u8]) -> Result<Action, Stop<LineKind>>
+    ensures { Gives result (table.keep_line.says (names_of remotes.now) (words rest.now)) }
+{
+    Ok(Action::Keep {
+        remote: lone_remote(alloc, remotes, rest)?,
+    })
 }
 
 pub(crate) fn export(alloc: Global, remotes: &Remotes, rest: &[u8]) -> Result<Action, Stop<LineKind>>
@@ -206,6 +230,14 @@ pub(crate) fn lone_seconds(rest: &[u8]) -> Result<u64, Stop<LineKind>>
 {
     let (word, _) = first_word(rest)?;
     seconds(word)
+}
+
+pub(crate) fn tick(rest: &[u8]) -> Result<Action, Stop<LineKind>>
+    ensures { Gives result (table.tick_line.says [] (words rest.now)) }
+{
+    Ok(Action::Tick {
+        seconds: lone_seconds(rest)?,
+    })
 }
 
 pub(crate) fn turn(alloc: Global, remotes: &Remotes, rest: &[u8]) -> Result<Action, Stop<LineKind>>

@@ -10,6 +10,7 @@
 
 mod actions;
 mod draft;
+mod entries;
 mod entry;
 mod fitting;
 mod kinds;
