@@ -3,3 +3,4 @@ mod Names
 mod Splits
 mod NameTexts
 mod Fits
+mod TextLines

@@ -1,6 +1,6 @@
 -- Where a name stands in a list that has one name more.
 use Rattle.std.specs.List.{list_any}
-use Rattle.std.proofs.Common.{bytes_eq, is_some, ◌||◌, ◌≡◌, ℕ, ◌+◌, Bool, true, false, cond, List, [], ◌∷◌, ◌++◌, length, Option, Some, None, refl, sym, ap, ◌∙◌, subst, arith}
+use Rattle.std.proofs.Common.{bytes_eq, is_some, ◌||◌, ◌≡◌, ℕ, ◌+◌, Bool, true, false, cond, List, [], ◌∷◌, ◌++◌, length, Option, Some, None, refl, ◌∙◌, subst, arith}
 use Rattle.std.specs.List.{position, position_from}
 use Rattle.std.specs.Ordering.{nat_cmp, is_eq}
 use Rattle.std.specs.Cmp.Lexicographic.{slice_cmp}

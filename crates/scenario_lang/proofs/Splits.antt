@@ -1,5 +1,5 @@
 -- Where the first separator stands, a list is split there.
-use Rattle.std.proofs.Common.{◌≡◌, ◌==◌, ℕ, zero, suc, ◌+◌, ◌<◌, Bool, true, false, cond, List, [], ◌∷◌, length, take, drop, get_or, refl, arith, eq-eqb, filter}
+use Rattle.std.proofs.Common.{◌≡◌, ◌==◌, ℕ, zero, suc, ◌<◌, false, cond, List, [], ◌∷◌, length, take, drop, get_or, refl, arith, eq-eqb}
 use Rattle.std.proofs.lemmas.Grind.{common_steps}
 use Rattle.mesh_text.specs.Addresses.{split_at}
 use Rattle.scenario_lang.specs.Split.{words, is_word}

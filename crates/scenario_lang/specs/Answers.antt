@@ -1,8 +1,13 @@
 -- What the reader of a part answers.
 use Rattle.std.specs.Prelude.{◌≡◌, ℕ, zero, suc, Bool, List, ◌++◌, Result, Ok, Err}
+use Rattle.scenario_lang.specs.declared.draft.Draft.{Draft}
+use Rattle.scenario_lang.specs.declared.kinds.LineFault.{LineFault}
+use Rattle.scenario_lang.specs.declared.kinds.LineKind.{LineKind}
+use Rattle.scenario_lang.specs.declared.kinds.Mode.{Mode}
 use Rattle.scenario_lang.specs.declared.stops.Stop.{Stop}
 use Rattle.scenario_lang.specs.declared.stops.Stop.TheVariants as stop
-use Rattle.scenario_lang.specs.Judgement.{◌>>=◌}
+use Rattle.scenario_lang.specs.Judgement.{◌>>=◌, at_line}
+use Rattle.scenario_lang.specs.Lines.{after_line, line_said}
 use Rattle.scenario_lang.specs.Shapes.{no_words, passes}
 
 -- a stop for this fault, or for want of memory
@@ -23,3 +28,12 @@ has (suc n) ws = passes ws (λ w more. has n more)
 -- what is read behind a front
 abbrev pub with_front : {A F : Type 0} → List A → Result (List A) F → Result (List A) F
 with_front front read = read >>= λ xs. Ok (front ++ xs)
+
+-- a stop in this line
+abbrev pub stop_in : ℕ → Stop LineKind → Stop LineFault
+stop_in n stop.Memory = stop.Memory
+stop_in n (stop.Fault kind) = stop.Fault (record { line = n; kind = kind })
+
+-- the lines so far with this one, which has the number n
+abbrev pub taken : Mode → Draft → ℕ → List ℕ → Result Draft LineFault
+taken how draft n line = at_line n (line_said how draft line) >>= λ said. Ok (after_line n draft said)

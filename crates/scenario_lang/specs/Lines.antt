@@ -1,5 +1,5 @@
 -- What a text says, or its first fault.
-use Rattle.std.specs.Prelude.{ℕ, ◌+◌, ◌*◌, Bool, true, false, not, ◌&&◌, ◌||◌, ◌==◌, nat_lt, nat_le, List, [], ◌∷◌, ◌++◌, length, map, Option, Some, None, Result, Ok, Err, if◌then◌else◌}
+use Rattle.std.specs.Prelude.{ℕ, ◌+◌, ◌*◌, Bool, true, false, not, ◌&&◌, ◌||◌, ◌==◌, nat_lt, nat_le, List, [], ◌∷◌, ◌++◌, length, Option, Some, None, Result, Ok, Err, if◌then◌else◌}
 use Rattle.std.specs.List.{list_all, list_any}
 use Rattle.mesh_base.specs.Order.{same_bytes}
 use Rattle.scenario_lang.specs.declared.draft.Draft.{Draft}
@@ -14,7 +14,6 @@ use Rattle.scenario_lang.specs.declared.scenario.Action.{Action}
 use Rattle.scenario_lang.specs.declared.scenario.Action.TheVariants as action
 use Rattle.scenario_lang.specs.declared.scenario.Cluster.{Cluster}
 use Rattle.scenario_lang.specs.declared.scenario.Scenario.{Scenario}
-use Rattle.scenario_lang.specs.declared.verb.Place.{Place}
 use Rattle.scenario_lang.specs.declared.verb.Place.TheVariants as place
 use Rattle.scenario_lang.specs.declared.verb.Verb.{Verb}
 use Rattle.scenario_lang.specs.Judgement.{◌>>=◌, refused_if, at_line}
@@ -87,17 +86,22 @@ abbrev pub exceeds : Mode → Draft → Entry → Bool
 exceeds how draft (entry.Remote remote) = nat_le (most_remotes how) (length draft.remotes)
 exceeds how draft _ = false
 
+-- a line whose words are right: the first of these faults counts
+abbrev pub entry_said : Mode → Draft → Entry → Result Entry LineKind
+entry_said how draft said = do
+  _ ← refused_if (turns_again draft said) kind.Words
+  _ ← refused_if (repeats draft said) kind.Repeated
+  _ ← refused_if (breaks_mode how said) kind.Mode
+  _ ← refused_if (exceeds how draft said) kind.TooManyRemotes
+  Ok said
+
 -- a line with this first word and these words behind it: the first of these faults counts
 unfoldable pub row_said : Mode → Draft → Verb → List (List ℕ) → Result Entry LineKind
 row_said how draft v ws = do
   _ ← refused_if (not ((row v).line.fits ws)) kind.Words
   _ ← refused_if (not (may_follow draft.last (row v).place)) kind.Header
   said ← (row v).line.says (names_of draft.remotes) ws
-  _ ← refused_if (turns_again draft said) kind.Words
-  _ ← refused_if (repeats draft said) kind.Repeated
-  _ ← refused_if (breaks_mode how said) kind.Mode
-  _ ← refused_if (exceeds how draft said) kind.TooManyRemotes
-  Ok said
+  entry_said how draft said
 
 abbrev pub verb_said : Mode → Draft → Option Verb → List (List ℕ) → Result Entry LineKind
 verb_said how draft None ws = Err kind.Words

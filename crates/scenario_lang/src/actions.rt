@@ -48,7 +48,11 @@ pub(crate) fn node(alloc: Global, remotes: &Remotes, rest: &[u8]) -> Result<Acti
     })
 }
 
-pub(crate) fn identity_line(alloc: Global, remotes: &Remotes, rest: &[u8]) -> Result<Action, Stop<LineKind>>
+pub(crate) fn identity_line(
+    alloc: Global,
+    remotes: &Remotes,
+    rest: &[u8],
+) -> Result<Action, Stop<LineKind>>
     ensures { Gives result (table.identity_line.says (names_of remotes.now) (words rest.now)) }
 {
     let (word, rest) = first_word(rest)?;
@@ -95,7 +99,11 @@ fn host_and_pod(alloc: Global, rest: &[u8]) -> Result<(Option<Ip>, Option<Pod>),
     host_of_pod(alloc, rest)
 }
 
-pub(crate) fn address_line(alloc: Global, remotes: &Remotes, rest: &[u8]) -> Result<Action, Stop<LineKind>>
+pub(crate) fn address_line(
+    alloc: Global,
+    remotes: &Remotes,
+    rest: &[u8],
+) -> Result<Action, Stop<LineKind>>
     ensures { Gives result (table.address_line.says (names_of remotes.now) (words rest.now)) }
 {
     let (word, rest) = first_word(rest)?;
@@ -131,7 +139,11 @@ fn withdrawn_record(alloc: Global, rest: &[u8]) -> Result<Withdrawn, Stop<LineKi
     Ok(Withdrawn::Address(address(word)?))
 }
 
-pub(crate) fn withdraw(alloc: Global, remotes: &Remotes, rest: &[u8]) -> Result<Action, Stop<LineKind>>
+pub(crate) fn withdraw(
+    alloc: Global,
+    remotes: &Remotes,
+    rest: &[u8],
+) -> Result<Action, Stop<LineKind>>
     ensures { Gives result (table.withdraw_line.says (names_of remotes.now) (words rest.now)) }
 {
     let (word, rest) = first_word(rest)?;
@@ -172,7 +184,11 @@ pub(crate) fn keep(alloc: Global, remotes: &Remotes, rest: &[u8]) -> Result<Acti
     })
 }
 
-pub(crate) fn export(alloc: Global, remotes: &Remotes, rest: &[u8]) -> Result<Action, Stop<LineKind>>
+pub(crate) fn export(
+    alloc: Global,
+    remotes: &Remotes,
+    rest: &[u8],
+) -> Result<Action, Stop<LineKind>>
     ensures { Gives result (table.export_line.says (names_of remotes.now) (words rest.now)) }
 {
     let (word, rest) = first_word(rest)?;

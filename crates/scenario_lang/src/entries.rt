@@ -6,7 +6,8 @@ ghost use Rattle.scenario_lang.specs.Split.{words};
 ghost use Rattle.scenario_lang.specs.Table as table;
 
 use crate::actions::{
-    address_line, export, identity_line, keep, lone_seconds, node, raw, start, stop, tick, turn, withdraw,
+    address_line, export, identity_line, keep, lone_seconds, node, raw, start, stop, tick, turn,
+    withdraw,
 };
 use crate::entry::Entry;
 use crate::kinds::LineKind;

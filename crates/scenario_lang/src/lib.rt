@@ -14,6 +14,8 @@ mod entries;
 mod entry;
 mod fitting;
 mod kinds;
+mod line;
+mod lines;
 mod remotes;
 mod scenario;
 mod splitting;
@@ -22,4 +24,5 @@ mod verb;
 mod words;
 
 pub use kinds::{LineFault, LineKind, Mode};
+pub use lines::read_scenario;
 pub use scenario::{Action, Cluster, Count, Pod, RawWrite, Remote, Scenario, Withdrawn};

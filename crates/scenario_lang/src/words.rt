@@ -65,7 +65,11 @@ pub(crate) fn part_name(alloc: Global, word: &[u8]) -> Result<PartName, Stop<Lin
 }
 
 /// The place of a remote, by its name.
-pub(crate) fn remote_place(alloc: Global, remotes: &Remotes, word: &[u8]) -> Result<usize, Stop<LineKind>>
+pub(crate) fn remote_place(
+    alloc: Global,
+    remotes: &Remotes,
+    word: &[u8],
+) -> Result<usize, Stop<LineKind>>
     ensures { Gives result (forms.remote_said (forms.names_of remotes.now) word.now) }
 {
     let name = cluster_name(alloc, word)?;

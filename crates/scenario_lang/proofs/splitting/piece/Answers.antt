@@ -1,4 +1,4 @@
-use Rattle.std.proofs.Common.{◌≡◌, ◌∷◌, [], ◌<◌, length, ℕ, List, arith, take, drop}
+use Rattle.std.proofs.Common.{arith}
 use Rattle.std.proofs.lemmas.Grind.{common_steps}
 use Rattle.scenario_lang.proofs.Splits.{split_first, split_whole}
 use Rattle.scenario_lang.proofs.splitting.piece.Goals as goal

@@ -1,4 +1,4 @@
-use Rattle.std.proofs.Common.{◌≡◌, ◌++◌, ◌∷◌, [], ◌∙◌, sym, subst, None, position, map, length, List, ℕ}
+use Rattle.std.proofs.Common.{◌≡◌, ◌∙◌, sym, subst, None, position, List}
 use Rattle.std.proofs.lemmas.List.{map_push}
 use Rattle.mesh_base.specs.Order.{same_bytes}
 use Rattle.scenario_lang.specs.declared.scenario.Remote.{Remote}
