@@ -4,3 +4,5 @@ mod Splits
 mod NameTexts
 mod Fits
 mod TextLines
+mod Shapely
+mod Rows

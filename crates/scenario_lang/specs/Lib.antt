@@ -5,3 +5,4 @@ pub mod Shapes
 pub mod Table
 pub mod Lines
 pub mod Answers
+pub mod Valid

@@ -20,6 +20,8 @@ mod remotes;
 mod scenario;
 mod splitting;
 mod stops;
+#[cfg(test)]
+mod tests;
 mod verb;
 mod words;
 
