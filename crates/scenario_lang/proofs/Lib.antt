@@ -6,3 +6,4 @@ mod Fits
 mod TextLines
 mod Shapely
 mod Rows
+pub mod Validity

@@ -24,10 +24,10 @@ pub passed : {B : Type 0} (t : Bool) (k : LineKind) (f : Unit {0} → Result B L
 passed false k f y e = (refl, e)
 passed true k f y e = absurd (let h : Err k ≡ Ok y = e in cc)
 
-abbrev given : {A : Type 0} → A → Result A LineKind
+abbrev pub given : {A : Type 0} → A → Result A LineKind
 given x = Ok x
 
-ok_same : {A : Type 0} (x y : A) → given x ≡ given y → x ≡ y
+pub ok_same : {A : Type 0} (x y : A) → given x ≡ given y → x ≡ y
 ok_same x y e = cc
 
 or_ok : {A : Type 0} (o : Option A) (k : LineKind) (x : A) → or_fault o k ≡ Ok x → o ≡ Some x
@@ -58,7 +58,8 @@ before P form shape h = record {
     let first = first_ok ws (λ w more. form.says names w >>= λ x. shape.says names more >>= λ y. Ok (x, y)) p e in
     let a = ok_bind (form.says names first.0) (λ x. shape.says names first.1 >>= λ y. Ok (x, y)) p first.2 in
     let b = ok_bind (shape.says names first.1) (λ y. Ok (a.0, y)) p a.2 in
-    let same : a.0 ≡ p.0 = ap (λ q. q.0) (ok_same (a.0, b.0) p b.2) in
+    let both = ok_same (a.0, b.0) p b.2 in
+    let same : a.0 ≡ p.0 = ap (λ q. q.0) both in
     subst (λ x. P (length names) x) same (h.word names first.0 a.0 a.1);
 }
 

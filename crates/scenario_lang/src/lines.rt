@@ -4,6 +4,7 @@ ghost use Rattle.mesh_text.specs.Addresses.{split_at};
 ghost use Rattle.scenario_lang.specs.Answers.{Gives};
 ghost use Rattle.scenario_lang.specs.Lines as lines;
 ghost use Rattle.scenario_lang.specs.Lines.{scenario_of};
+ghost use Rattle.scenario_lang.specs.Valid.{IsValid};
 
 use crate::draft::{Draft, no_lines};
 use crate::kinds::{LineFault, LineKind, Mode};
@@ -148,7 +149,8 @@ pub fn read_scenario(
     bytes: &[u8],
     mode: Mode,
 ) -> Result<Result<Scenario, LineFault>, Memory>
-    ensures { IfOk result (λ r. r ≡ scenario_of mode bytes.now) }
+    ensures said { IfOk result (λ r. r ≡ scenario_of mode bytes.now) }
+    ensures valid { IfOk result (λ r. IfOk r (λ s. IsValid mode s)) }
 {
     if bytes.len() > LONGEST_TEXT {
         return Ok(Err(LineFault {
