@@ -1,5 +1,5 @@
 -- What holds of every line of each row.
-use Rattle.std.proofs.Common.{◌≡◌, ◌<◌, ◌≤◌, ℕ, List, Option, Some, None, refl, codes}
+use Rattle.std.proofs.Common.{◌≡◌, ◌<◌, ℕ, refl, codes}
 use Rattle.scenario_lang.specs.declared.entry.Entry.{Entry}
 use Rattle.scenario_lang.specs.declared.entry.Entry.TheVariants as entry
 use Rattle.scenario_lang.specs.declared.scenario.Action.{Action}

@@ -1,18 +1,17 @@
 -- What holds of everything that words of a form, or of a shape, say.
-use Rattle.std.proofs.Common.{◌≡◌, ◌⊎◌, ◌&&◌, ◌||◌, ◌+◌, ◌≤◌, ◌<◌, ℕ, zero, suc, Bool, true, false, not, cond, nat_le, nat_lt, bytes_eq, codes, List, [], ◌∷◌, length, Option, Some, None, Result, Ok, Err, refl, sym, ap, ◌∙◌, subst, arith, option_and_then}
+use Rattle.std.proofs.Common.{◌≡◌, ◌&&◌, ◌+◌, ◌≤◌, ◌<◌, ℕ, Bool, true, false, cond, nat_le, bytes_eq, codes, List, [], ◌∷◌, length, Option, Some, None, Result, Ok, Err, refl, sym, ap, ◌∙◌, subst, arith, option_and_then}
 use Rattle.std.specs.List.{position, position_from}
 use Rattle.std.proofs.lemmas.Bool.{and_parts, leb-true}
 use Rattle.std.proofs.lemmas.Iterator.Adapters.{position_from-zero}
 use Rattle.mesh_base.specs.Order.{same_bytes}
-use Rattle.mesh_text.specs.Names.{is_cluster_name}
 use Rattle.mesh_text.specs.Numbers.{number_of}
 use Rattle.scenario_lang.specs.declared.kinds.LineKind.{LineKind}
 use Rattle.scenario_lang.specs.declared.kinds.LineKind.TheVariants as kind
 use Rattle.scenario_lang.specs.declared.scenario.Count.{Count}
 use Rattle.scenario_lang.specs.declared.scenario.Count.TheVariants as count
 use Rattle.scenario_lang.specs.Judgement.{◌>>=◌, or_fault, refused_if}
-use Rattle.scenario_lang.specs.Forms.{Form, Names, remote, seconds, cluster_number, count_or_all, cluster_name_said, whole_of, whole_said, count_said}
-use Rattle.scenario_lang.specs.Shapes.{Shape, first_of, one, ◌▸◌, word, many, or, makes}
+use Rattle.scenario_lang.specs.Forms.{Form, Names, remote, seconds, cluster_number, count_or_all, cluster_name_said, whole_of, whole_said}
+use Rattle.scenario_lang.specs.Shapes.{Shape, first_of, one, ◌▸◌, word, makes}
 use Rattle.scenario_lang.specs.Valid.{IsClusterNumber, IsToBillion, IsCount}
 
 -- a judgement that gives something went through its first step
@@ -55,22 +54,22 @@ alone P form h = record { words = λ names ws x e. let first = first_ok ws (λ w
 pub before : {A B : Type 0} (P : ℕ → A → Type 0) (form : Form A) (shape : Shape B) → Holds P form → HoldsAll (λ n p. P n p.0) (form ▸ shape)
 before P form shape h = record {
   words = λ names ws p e.
-    let first = first_ok ws (λ w more. form.says names w >>= λ x. shape.says names more >>= λ y. Ok (x, y)) p e in
-    let a = ok_bind (form.says names first.0) (λ x. shape.says names first.1 >>= λ y. Ok (x, y)) p first.2 in
-    let b = ok_bind (shape.says names first.1) (λ y. Ok (a.0, y)) p a.2 in
-    let both = ok_same (a.0, b.0) p b.2 in
-    let same : a.0 ≡ p.0 = ap (λ q. q.0) both in
-    subst (λ x. P (length names) x) same (h.word names first.0 a.0 a.1);
+      let first = first_ok ws (λ w more. form.says names w >>= λ x. shape.says names more >>= λ y. Ok (x, y)) p e in
+      let a = ok_bind (form.says names first.0) (λ x. shape.says names first.1 >>= λ y. Ok (x, y)) p first.2 in
+      let b = ok_bind (shape.says names first.1) (λ y. Ok (a.0, y)) p a.2 in
+      let both = ok_same (a.0, b.0) p b.2 in
+      let same : a.0 ≡ p.0 = ap (λ q. q.0) both in
+      subst (λ x. P (length names) x) same (h.word names first.0 a.0 a.1);
 }
 
 pub beside : {A B : Type 0} (P : ℕ → A → Type 0) (Q : ℕ → B → Type 0) (form : Form A) (shape : Shape B) → Holds P form → HoldsAll Q shape → HoldsAll (λ n p. P n p.0 × Q n p.1) (form ▸ shape)
 beside P Q form shape h k = record {
   words = λ names ws p e.
-    let first = first_ok ws (λ w more. form.says names w >>= λ x. shape.says names more >>= λ y. Ok (x, y)) p e in
-    let a = ok_bind (form.says names first.0) (λ x. shape.says names first.1 >>= λ y. Ok (x, y)) p first.2 in
-    let b = ok_bind (shape.says names first.1) (λ y. Ok (a.0, y)) p a.2 in
-    let same = ok_same (a.0, b.0) p b.2 in
-    (subst (λ x. P (length names) x) (ap (λ q. q.0) same) (h.word names first.0 a.0 a.1), subst (λ y. Q (length names) y) (ap (λ q. q.1) same) (k.words names first.1 b.0 b.1));
+      let first = first_ok ws (λ w more. form.says names w >>= λ x. shape.says names more >>= λ y. Ok (x, y)) p e in
+      let a = ok_bind (form.says names first.0) (λ x. shape.says names first.1 >>= λ y. Ok (x, y)) p first.2 in
+      let b = ok_bind (shape.says names first.1) (λ y. Ok (a.0, y)) p a.2 in
+      let same = ok_same (a.0, b.0) p b.2 in
+      (subst (λ x. P (length names) x) (ap (λ q. q.0) same) (h.word names first.0 a.0 a.1), subst (λ y. Q (length names) y) (ap (λ q. q.1) same) (k.words names first.1 b.0 b.1));
 }
 
 pub behind : {A : Type 0} (P : ℕ → A → Type 0) (text : List ℕ) (shape : Shape A) → HoldsAll P shape → HoldsAll P (word text shape)
@@ -79,8 +78,8 @@ behind P text shape h = record { words = λ names ws x e. let first = first_ok w
 pub made : {A B : Type 0} (P : ℕ → A → Type 0) (Q : ℕ → B → Type 0) (m : A → B) (shape : Shape A) → HoldsAll P shape → ((n : ℕ) (x : A) → P n x → Q n (m x)) → HoldsAll Q (makes m shape)
 made P Q m shape h f = record {
   words = λ names ws y e.
-    let a = ok_bind (shape.says names ws) (λ x. Ok (m x)) y e in
-    subst (λ z. Q (length names) z) (ok_same (m a.0) y a.2) (f (length names) a.0 (h.words names ws a.0 a.1));
+      let a = ok_bind (shape.says names ws) (λ x. Ok (m x)) y e in
+      subst (λ z. Q (length names) z) (ok_same (m a.0) y a.2) (f (length names) a.0 (h.words names ws a.0 a.1));
 }
 
 -- The forms.
@@ -96,10 +95,10 @@ position_below p i (y ∷ ys) x e = by (p y) (position_below p (i + 1) ys x) e
 pub remote_in : Holds (λ n p. p < n) remote
 remote_in = record {
   word = λ names w p e.
-    let a = ok_bind (cluster_name_said w) (λ name. or_fault (position (same_bytes name) names) kind.UnknownCluster) p e in
-    let at = or_ok (position (same_bytes a.0) names) kind.UnknownCluster p a.2 in
-    let h = position_below (same_bytes a.0) 0 names p (sym (position_from-zero (same_bytes a.0) names) ∙ at) in
-    omega arith;
+      let a = ok_bind (cluster_name_said w) (λ name. or_fault (position (same_bytes name) names) kind.UnknownCluster) p e in
+      let at = or_ok (position (same_bytes a.0) names) kind.UnknownCluster p a.2 in
+      let h = position_below (same_bytes a.0) 0 names p (sym (position_from-zero (same_bytes a.0) names) ∙ at) in
+      omega arith;
 }
 
 whole_in : (low high : ℕ) (w : List ℕ) (n : ℕ) → whole_said low high w ≡ Ok n → (low ≤ n) × (n ≤ high)

@@ -1,5 +1,5 @@
 -- Every scenario that is read is valid.
-use Rattle.std.proofs.Common.{◌≡◌, ◌+◌, ◌≤◌, ◌<◌, ◌||◌, ℕ, Bool, true, false, not, cond, nat_le, nat_lt, List, [], ◌∷◌, ◌++◌, length, map, Option, Some, None, IfSome, Result, Ok, Err, refl, sym, ap, ◌∙◌, subst, arith, append_assoc}
+use Rattle.std.proofs.Common.{◌≡◌, ◌+◌, ◌≤◌, ◌||◌, ℕ, Bool, true, false, not, cond, nat_lt, List, [], ◌∷◌, ◌++◌, length, Option, Some, None, IfSome, Result, Ok, Err, refl, sym, ap, ◌∙◌, subst, arith, append_assoc}
 use Rattle.std.specs.List.{All, IsDistinct, list_all, list_any}
 use Rattle.std.specs.Cmp.Lexicographic.{nat_list_cmp_total}
 use Rattle.std.proofs.lemmas.Bool.{leb-false}
@@ -14,9 +14,7 @@ use Rattle.scenario_lang.specs.declared.entry.Entry.{Entry}
 use Rattle.scenario_lang.specs.declared.entry.Entry.TheVariants as entry
 use Rattle.scenario_lang.specs.declared.kinds.LineKind.{LineKind}
 use Rattle.scenario_lang.specs.declared.kinds.LineKind.TheVariants as kind
-use Rattle.scenario_lang.specs.declared.kinds.LineFault.{LineFault}
 use Rattle.scenario_lang.specs.declared.kinds.Mode.{Mode}
-use Rattle.scenario_lang.specs.declared.kinds.Mode.TheVariants as mode
 use Rattle.scenario_lang.specs.declared.scenario.Action.{Action}
 use Rattle.scenario_lang.specs.declared.scenario.Action.TheVariants as action
 use Rattle.scenario_lang.specs.declared.scenario.Cluster.{Cluster}
@@ -104,7 +102,7 @@ remote_apart : (local : Option Cluster) (remotes : List Remote) (r : Remote) →
     → is_local_name r.name local || list_any (same_bytes r.name) (names_of remotes) ≡ false → IsDistinct same_bytes (local_names local ++ names_of (remotes ++ r ∷ []))
 remote_apart local remotes r apart single =
     let same : local_names local ++ names_of (remotes ++ r ∷ []) ≡ (local_names local ++ names_of remotes) ++ r.name ∷ []
-        = ap (λ (ns : List (List ℕ)). local_names local ++ ns) (map_push (λ (x : Remote). x.name) remotes r) ∙ sym (append_assoc (local_names local) (names_of remotes) (r.name ∷ [])) in
+    = ap (λ (ns : List (List ℕ)). local_names local ++ ns) (map_push (λ (x : Remote). x.name) remotes r) ∙ sym (append_assoc (local_names local) (names_of remotes) (r.name ∷ [])) in
     let new : list_any (same_bytes r.name) (local_names local ++ names_of remotes) ≡ false = list_any-append (same_bytes r.name) (local_names local) (names_of remotes) ∙ (rw (local_named r.name local) at single) in
     subst (IsDistinct same_bytes) (sym same) (IsDistinct-push (eq_by_cmp_equiv nat_list_cmp_total) (local_names local ++ names_of remotes) r.name apart new)
 

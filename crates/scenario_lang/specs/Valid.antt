@@ -1,5 +1,5 @@
 -- What holds of every scenario.
-use Rattle.std.specs.Prelude.{ℕ, ◌≤◌, ◌<◌, List, ◌∷◌, length, IfSome}
+use Rattle.std.specs.Prelude.{ℕ, ◌≤◌, ◌<◌, ◌∷◌, length, IfSome}
 use Rattle.std.specs.List.{All, IsDistinct}
 use Rattle.mesh_base.specs.Order.{same_bytes}
 use Rattle.scenario_lang.specs.declared.kinds.Mode.{Mode}

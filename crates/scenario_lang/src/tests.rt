@@ -20,11 +20,7 @@ fn fault_of(alloc: Global, text: &[u8], mode: Mode) -> Result<Option<LineFault>,
 }
 
 /// The same, behind the header.
-fn fault_behind_head(
-    alloc: Global,
-    lines: &str,
-    mode: Mode,
-) -> Result<Option<LineFault>, Memory> {
+fn fault_behind_head(alloc: Global, lines: &str, mode: Mode) -> Result<Option<LineFault>, Memory> {
     let mut text = Vec::from_slice(alloc, HEAD.as_bytes())?;
     text.extend_from_slice(lines.as_bytes())?;
     fault_of(alloc, text.as_slice(), mode)
@@ -63,7 +59,8 @@ fn scenario(alloc: Global, text: &str) -> Result<Scenario, Fail> {
 
 #[test]
 fn the_header_is_read(rt: HostRuntime) -> Result<(), Fail> {
-    let text = "mesh 1\n  local  home 9 \n# a comment\n\nlease 30\nremote east 1 direct\nremote west-2 255 direct\n";
+    let text =
+        "mesh 1\n  local  home 9 \n# a comment\n\nlease 30\nremote east 1 direct\nremote west-2 255 direct\n";
     let scenario = scenario(rt.alloc(), text)?;
     assert_eq!(rt; scenario.local.name.as_bytes(), b"home".as_slice());
     assert_eq!(rt; scenario.local.number, 9);
@@ -94,43 +91,129 @@ fn only_action(alloc: Global, line: &str) -> Result<Action, Fail> {
 fn each_action_is_read(rt: HostRuntime) -> Result<(), Fail> {
     let alloc = rt.alloc();
     let node = only_action(alloc, "node west n1.prod 10.0.0.1 2001:db8::1\n")?;
-    assert!(rt; matches!(&node, Action::Node { remote: 1, name, addresses }
-        if name.as_bytes() == b"n1.prod".as_slice() && addresses.as_slice() == [Ip::V4(167_772_161), Ip::V6(42_540_766_411_282_592_856_903_984_951_653_826_561)].as_slice()));
+    assert!(rt;
+        matches!(&node, Action::Node { remote: 1, name, addresses }
+        if name.as_bytes() == b"n1.prod".as_slice() && addresses.as_slice() == [Ip::V4(167_772_161), Ip::V6(42_540_766_411_282_592_856_903_984_951_653_826_561)].as_slice())
+    );
     let identity = only_action(alloc, "identity west 131328 k8s:app=web;k8s:b=;\n")?;
-    assert!(rt; matches!(&identity, Action::Identity { remote: 1, identity: 131_328, labels } if labels.labels.len() == 2));
+    assert!(rt;
+        matches!(&identity, Action::Identity { remote: 1, identity: 131_328, labels } if labels.labels.len() == 2)
+    );
     let unlabelled = only_action(alloc, "identity east 4294967295 -\n")?;
-    assert!(rt; matches!(&unlabelled, Action::Identity { remote: 0, identity: u32::MAX, labels } if labels.labels.len() == 0));
+    assert!(rt;
+        matches!(&unlabelled, Action::Identity { remote: 0, identity: u32::MAX, labels } if labels.labels.len() == 0)
+    );
     let alone = only_action(alloc, "address east 10.0.0.5 65792 -\n")?;
-    assert!(rt; matches!(&alone, Action::Address { remote: 0, ip: Ip::V4(167_772_165), identity: 65_792, host: None, pod: None }));
+    assert!(rt;
+        matches!(
+            &alone,
+            Action::Address {
+                remote: 0,
+                ip: Ip::V4(167_772_165),
+                identity: 65_792,
+                host: None,
+                pod: None
+            }
+        )
+    );
     let of_pod = only_action(alloc, "address east ::1 0 10.0.0.1 prod web-0\n")?;
-    assert!(rt; matches!(&of_pod, Action::Address { remote: 0, ip: Ip::V6(1), identity: 0, host: Some(Ip::V4(167_772_161)), pod: Some(pod) }
-        if pod.namespace.as_bytes() == b"prod".as_slice() && pod.name.as_bytes() == b"web-0".as_slice()));
+    assert!(rt;
+        matches!(&of_pod, Action::Address { remote: 0, ip: Ip::V6(1), identity: 0, host: Some(Ip::V4(167_772_161)), pod: Some(pod) }
+        if pod.namespace.as_bytes() == b"prod".as_slice() && pod.name.as_bytes() == b"web-0".as_slice())
+    );
     let node_gone = only_action(alloc, "withdraw west node node\n")?;
-    assert!(rt; matches!(&node_gone, Action::Withdraw { remote: 1, record: Withdrawn::Node(name) } if name.as_bytes() == b"node".as_slice()));
+    assert!(rt;
+        matches!(&node_gone, Action::Withdraw { remote: 1, record: Withdrawn::Node(name) } if name.as_bytes() == b"node".as_slice())
+    );
     let identity_gone = only_action(alloc, "withdraw west identity 7\n")?;
-    assert!(rt; matches!(&identity_gone, Action::Withdraw { remote: 1, record: Withdrawn::Identity(7) }));
+    assert!(rt;
+        matches!(
+            &identity_gone,
+            Action::Withdraw {
+                remote: 1,
+                record: Withdrawn::Identity(7)
+            }
+        )
+    );
     let address_gone = only_action(alloc, "withdraw west address 0.0.0.7\n")?;
-    assert!(rt; matches!(&address_gone, Action::Withdraw { remote: 1, record: Withdrawn::Address(Ip::V4(7)) }));
+    assert!(rt;
+        matches!(
+            &address_gone,
+            Action::Withdraw {
+                remote: 1,
+                record: Withdrawn::Address(Ip::V4(7))
+            }
+        )
+    );
     Ok(())
 }
 
 #[test]
 fn each_action_of_an_exporter_or_a_store_is_read(rt: HostRuntime) -> Result<(), Fail> {
     let alloc = rt.alloc();
-    assert!(rt; matches!(only_action(alloc, "start west\n")?, Action::Start { remote: 1 }));
-    assert!(rt; matches!(only_action(alloc, "stop west\n")?, Action::Stop { remote: 1 }));
-    assert!(rt; matches!(only_action(alloc, "keep east\n")?, Action::Keep { remote: 0 }));
-    assert!(rt; matches!(only_action(alloc, "export west all\n")?, Action::Export { remote: 1, count: Count::All }));
-    assert!(rt; matches!(only_action(alloc, "export west 2\n")?, Action::Export { remote: 1, count: Count::Of(2) }));
+    assert!(rt;
+        matches!(
+            only_action(alloc, "start west\n")?,
+            Action::Start { remote: 1 }
+        )
+    );
+    assert!(rt;
+        matches!(
+            only_action(alloc, "stop west\n")?,
+            Action::Stop { remote: 1 }
+        )
+    );
+    assert!(rt;
+        matches!(
+            only_action(alloc, "keep east\n")?,
+            Action::Keep { remote: 0 }
+        )
+    );
+    assert!(rt;
+        matches!(
+            only_action(alloc, "export west all\n")?,
+            Action::Export {
+                remote: 1,
+                count: Count::All
+            }
+        )
+    );
+    assert!(rt;
+        matches!(
+            only_action(alloc, "export west 2\n")?,
+            Action::Export {
+                remote: 1,
+                count: Count::Of(2)
+            }
+        )
+    );
     let put = only_action(alloc, "raw west put a%2fb %25-\n")?;
-    assert!(rt; matches!(&put, Action::Raw { remote: 1, write: RawWrite::Put { key, value } }
-        if key.as_slice() == b"a/b".as_slice() && value.as_slice() == b"%-".as_slice()));
+    assert!(rt;
+        matches!(&put, Action::Raw { remote: 1, write: RawWrite::Put { key, value } }
+        if key.as_slice() == b"a/b".as_slice() && value.as_slice() == b"%-".as_slice())
+    );
     let empty = only_action(alloc, "raw west put a -\n")?;
-    assert!(rt; matches!(&empty, Action::Raw { remote: 1, write: RawWrite::Put { value, .. } } if value.as_slice().is_empty()));
+    assert!(rt;
+        matches!(&empty, Action::Raw { remote: 1, write: RawWrite::Put { value, .. } } if value.as_slice().is_empty())
+    );
     let delete = only_action(alloc, "raw east delete put\n")?;
-    assert!(rt; matches!(&delete, Action::Raw { remote: 0, write: RawWrite::Delete { key } } if key.as_slice() == b"put".as_slice()));
-    assert!(rt; matches!(only_action(alloc, "tick 1000000000\n")?, Action::Tick { seconds: 1_000_000_000 }));
-    assert!(rt; matches!(only_action(alloc, "turn agent west all\n")?, Action::Turn { remote: 1 }));
+    assert!(rt;
+        matches!(&delete, Action::Raw { remote: 0, write: RawWrite::Delete { key } } if key.as_slice() == b"put".as_slice())
+    );
+    assert!(rt;
+        matches!(
+            only_action(alloc, "tick 1000000000\n")?,
+            Action::Tick {
+                seconds: 1_000_000_000
+            }
+        )
+    );
+    assert!(rt;
+        matches!(
+            only_action(alloc, "turn agent west all\n")?,
+            Action::Turn { remote: 1 }
+        )
+    );
     assert!(rt; matches!(only_action(alloc, "report\n")?, Action::Report));
     Ok(())
 }
@@ -159,17 +242,53 @@ fn a_faulty_header_is_refused(rt: HostRuntime) -> Result<(), Fail> {
         ("mesh 1\nlocal home\n", 2, LineKind::Words),
         ("mesh 1\nlocal home 9\nlocal home 9\n", 3, LineKind::Header),
         ("mesh 1\nlocal home 9\nlease 0\n", 3, LineKind::Number),
-        ("mesh 1\nlocal home 9\nlease 1000000001\n", 3, LineKind::Number),
-        ("mesh 1\nlocal home 9\nlease 5\nlease 5\n", 4, LineKind::Header),
-        ("mesh 1\nlocal home 9\nremote east 1 cached\n", 3, LineKind::Words),
-        ("mesh 1\nlocal home 9\nremote home 1 direct\n", 3, LineKind::Repeated),
-        ("mesh 1\nlocal home 9\nremote a 1 direct\nremote a 2 direct\n", 4, LineKind::Repeated),
-        ("mesh 1\nlocal home 9\nremote a 1 direct\nlease 5\n", 4, LineKind::Header),
-        ("mesh 1\nlocal home 9\nreport\nremote a 1 direct\n", 4, LineKind::Header),
-        ("mesh 1\nlocal home 9\nreport\nlease 5\n", 4, LineKind::Header),
+        (
+            "mesh 1\nlocal home 9\nlease 1000000001\n",
+            3,
+            LineKind::Number,
+        ),
+        (
+            "mesh 1\nlocal home 9\nlease 5\nlease 5\n",
+            4,
+            LineKind::Header,
+        ),
+        (
+            "mesh 1\nlocal home 9\nremote east 1 cached\n",
+            3,
+            LineKind::Words,
+        ),
+        (
+            "mesh 1\nlocal home 9\nremote home 1 direct\n",
+            3,
+            LineKind::Repeated,
+        ),
+        (
+            "mesh 1\nlocal home 9\nremote a 1 direct\nremote a 2 direct\n",
+            4,
+            LineKind::Repeated,
+        ),
+        (
+            "mesh 1\nlocal home 9\nremote a 1 direct\nlease 5\n",
+            4,
+            LineKind::Header,
+        ),
+        (
+            "mesh 1\nlocal home 9\nreport\nremote a 1 direct\n",
+            4,
+            LineKind::Header,
+        ),
+        (
+            "mesh 1\nlocal home 9\nreport\nlease 5\n",
+            4,
+            LineKind::Header,
+        ),
     ];
     for (text, line, kind) in cases {
-        assert_eq!(rt; fault_of(rt.alloc(), text.as_bytes(), Mode::Step)?, fault(line, kind), "at {text}");
+        assert_eq!(rt;
+            fault_of(rt.alloc(), text.as_bytes(), Mode::Step)?,
+            fault(line, kind),
+            "at {text}"
+        );
     }
     Ok(())
 }
@@ -222,7 +341,11 @@ fn a_faulty_action_is_refused(rt: HostRuntime) -> Result<(), Fail> {
         ("raw east get a\n", LineKind::Words),
     ];
     for (lines, kind) in cases {
-        assert_eq!(rt; fault_behind_head(rt.alloc(), lines, Mode::Step)?, fault(4, kind), "at {lines}");
+        assert_eq!(rt;
+            fault_behind_head(rt.alloc(), lines, Mode::Step)?,
+            fault(4, kind),
+            "at {lines}"
+        );
     }
     Ok(())
 }
@@ -249,10 +372,18 @@ fn the_first_fault_counts(rt: HostRuntime) -> Result<(), Fail> {
         // the first faulty line, and each line once
         ("tick 0\nwhat\n", 4, LineKind::Number),
         ("# what\n\n  \ntick 5\nwhat\n", 8, LineKind::Words),
-        ("turn agent east all\nreport\nturn agent east all\n", 6, LineKind::Words),
+        (
+            "turn agent east all\nreport\nturn agent east all\n",
+            6,
+            LineKind::Words,
+        ),
     ];
     for (lines, line, kind) in cases {
-        assert_eq!(rt; fault_behind_head(rt.alloc(), lines, Mode::Step)?, fault(line, kind), "at {lines}");
+        assert_eq!(rt;
+            fault_behind_head(rt.alloc(), lines, Mode::Step)?,
+            fault(line, kind),
+            "at {lines}"
+        );
     }
     Ok(())
 }
@@ -269,7 +400,11 @@ fn threads_want_other_lines(rt: HostRuntime) -> Result<(), Fail> {
         ("# nothing to do\n", None),
     ];
     for (lines, wanted) in cases {
-        assert_eq!(rt; fault_behind_head(rt.alloc(), lines, RUN)?, wanted, "at {lines}");
+        assert_eq!(rt;
+            fault_behind_head(rt.alloc(), lines, RUN)?,
+            wanted,
+            "at {lines}"
+        );
     }
     Ok(())
 }
@@ -282,13 +417,29 @@ fn keys_and_values_have_their_sizes(rt: HostRuntime) -> Result<(), Fail> {
         ("raw east delete ", 1025, fault(4, LineKind::TooLong)),
         ("raw west delete ", 1025, fault(4, LineKind::UnknownCluster)),
         ("raw east put cilium/state/nodes/v1/east/n2 ", 32_768, None),
-        ("raw east put cilium/state/nodes/v1/east/n2 ", 32_769, fault(4, LineKind::TooLong)),
-        ("raw east put cilium/state/nodes/v1/east/n2 %4", 32_769, fault(4, LineKind::TooLong)),
-        ("raw east put cilium/state/nodes/v1/east/n2 %4 ", 32_769, fault(4, LineKind::Words)),
+        (
+            "raw east put cilium/state/nodes/v1/east/n2 ",
+            32_769,
+            fault(4, LineKind::TooLong),
+        ),
+        (
+            "raw east put cilium/state/nodes/v1/east/n2 %4",
+            32_769,
+            fault(4, LineKind::TooLong),
+        ),
+        (
+            "raw east put cilium/state/nodes/v1/east/n2 %4 ",
+            32_769,
+            fault(4, LineKind::Words),
+        ),
     ];
     for (front, letters, wanted) in cases {
         let text = with_letters(alloc, front, letters)?;
-        assert_eq!(rt; fault_of(alloc, text.as_slice(), Mode::Step)?, wanted, "at {front} {letters}");
+        assert_eq!(rt;
+            fault_of(alloc, text.as_slice(), Mode::Step)?,
+            wanted,
+            "at {front} {letters}"
+        );
     }
     Ok(())
 }
@@ -299,11 +450,20 @@ fn lines_have_their_size(rt: HostRuntime) -> Result<(), Fail> {
     let longest = with_letters(alloc, "#", 65_535)?;
     assert_eq!(rt; fault_of(alloc, longest.as_slice(), Mode::Step)?, None);
     let longer = with_letters(alloc, "\t", 65_536)?;
-    assert_eq!(rt; fault_of(alloc, longer.as_slice(), Mode::Step)?, fault(4, LineKind::TooLong));
+    assert_eq!(rt;
+        fault_of(alloc, longer.as_slice(), Mode::Step)?,
+        fault(4, LineKind::TooLong)
+    );
     let unended = repeated(alloc, HEAD, "\t", 65_537)?;
-    assert_eq!(rt; fault_of(alloc, unended.as_slice(), Mode::Step)?, fault(4, LineKind::TooLong));
+    assert_eq!(rt;
+        fault_of(alloc, unended.as_slice(), Mode::Step)?,
+        fault(4, LineKind::TooLong)
+    );
     let shorter = repeated(alloc, HEAD, " ", 65_536)?;
-    assert_eq!(rt; fault_of(alloc, shorter.as_slice(), Mode::Step)?, fault(4, LineKind::Words));
+    assert_eq!(rt;
+        fault_of(alloc, shorter.as_slice(), Mode::Step)?,
+        fault(4, LineKind::Words)
+    );
     Ok(())
 }
 
@@ -326,14 +486,28 @@ fn there_are_at_most_255_remotes(rt: HostRuntime) -> Result<(), Fail> {
         (Mode::Step, 255, "", None),
         (Mode::Step, 255, "turn agent r254 all\n", None),
         (Mode::Step, 256, "", fault(258, LineKind::TooManyRemotes)),
-        (Mode::Step, 255, "remote r7 1 direct\n", fault(258, LineKind::Repeated)),
-        (Mode::Step, 255, "remote r256 0 direct\n", fault(258, LineKind::Number)),
+        (
+            Mode::Step,
+            255,
+            "remote r7 1 direct\n",
+            fault(258, LineKind::Repeated),
+        ),
+        (
+            Mode::Step,
+            255,
+            "remote r256 0 direct\n",
+            fault(258, LineKind::Number),
+        ),
         (RUN, 32, "", None),
         (RUN, 33, "", fault(35, LineKind::TooManyRemotes)),
     ];
     for (mode, remotes, lines, wanted) in cases {
         let text = with_remotes(alloc, remotes, lines)?;
-        assert_eq!(rt; fault_of(alloc, text.as_slice(), mode)?, wanted, "at {remotes} {lines}");
+        assert_eq!(rt;
+            fault_of(alloc, text.as_slice(), mode)?,
+            wanted,
+            "at {remotes} {lines}"
+        );
     }
     Ok(())
 }
@@ -365,10 +539,17 @@ fn heavy_lines_want_a_short_text(rt: HostRuntime) -> Result<(), Fail> {
     ];
     for (line, heavy, bytes, wanted) in cases {
         let text = with_weight(alloc, line, heavy, bytes)?;
-        assert_eq!(rt; fault_of(alloc, text.as_slice(), Mode::Step)?, wanted, "at {line} {heavy} {bytes}");
+        assert_eq!(rt;
+            fault_of(alloc, text.as_slice(), Mode::Step)?,
+            wanted,
+            "at {line} {heavy} {bytes}"
+        );
     }
     let text = with_weight(alloc, "start east\n", 1024, 65_536)?;
-    assert_eq!(rt; fault_of(alloc, text.as_slice(), RUN)?, fault(1027, LineKind::Mode));
+    assert_eq!(rt;
+        fault_of(alloc, text.as_slice(), RUN)?,
+        fault(1027, LineKind::Mode)
+    );
     Ok(())
 }
 
@@ -382,12 +563,17 @@ fn a_text_has_its_size(rt: HostRuntime) -> Result<(), Fail> {
     ];
     for (line, heavy, bytes, wanted) in cases {
         let text = with_weight(alloc, line, heavy, bytes)?;
-        assert_eq!(rt; fault_of(alloc, text.as_slice(), Mode::Step)?, wanted, "at {line} {bytes}");
+        assert_eq!(rt;
+            fault_of(alloc, text.as_slice(), Mode::Step)?,
+            wanted,
+            "at {line} {bytes}"
+        );
     }
     Ok(())
 }
 
-const WHOLE: &str = "mesh 1\nlocal home 9\nremote east 1 direct\n# x\nnode east n1 10.0.0.1\nraw east put a b\ntick 5\nreport\n";
+const WHOLE: &str =
+    "mesh 1\nlocal home 9\nremote east 1 direct\n# x\nnode east n1 10.0.0.1\nraw east put a b\ntick 5\nreport\n";
 
 /// The number of the line in which a place lies.
 fn line_at(text: &[u8], place: usize) -> u64 {
@@ -410,11 +596,19 @@ fn a_damaged_scenario_is_refused_where_it_is_damaged(rt: HostRuntime) -> Result<
         for byte in [b'\t', 0, 0x7F, 0xFF] {
             let mut damaged = Vec::from_slice(alloc, whole)?;
             damaged[place] = byte;
-            assert_eq!(rt; fault_of(alloc, damaged.as_slice(), Mode::Step)?, fault(line, LineKind::Words), "at {place}");
+            assert_eq!(rt;
+                fault_of(alloc, damaged.as_slice(), Mode::Step)?,
+                fault(line, LineKind::Words),
+                "at {place}"
+            );
         }
         let (front, _) = whole.split_at(place);
         let wanted = if place == 0 || whole[place - 1] == b'\n' {
-            if line < 3 { fault(line, LineKind::Header) } else { None }
+            if line < 3 {
+                fault(line, LineKind::Header)
+            } else {
+                None
+            }
         } else {
             fault(line, LineKind::Words)
         };
