@@ -512,17 +512,23 @@ fn there_are_at_most_255_remotes(rt: HostRuntime) -> Result<(), Fail> {
     Ok(())
 }
 
+/// A comment of 60,002 bytes.
+fn comment(alloc: Global) -> Result<Vec<u8>, Memory> {
+    let mut text = repeated(alloc, "#", "a", 60_000)?;
+    text.push(b'\n')?;
+    Ok(text)
+}
+
 /// A text of so many bytes, with so many heavy lines and then comments and empty lines.
 fn with_weight(alloc: Global, line: &str, heavy: usize, bytes: usize) -> Result<Vec<u8>, Memory> {
     let mut text = repeated(alloc, HEAD, line, heavy)?;
-    let comment = with_letters(alloc, "#", 60_000)?;
-    let (_, comment) = comment.as_slice().split_at(HEAD.len());
-    while text.len() < bytes {
-        if bytes - text.len() >= comment.len() {
-            text.extend_from_slice(comment)?;
-        } else {
-            text.push(b'\n')?;
-        }
+    let comment = comment(alloc)?;
+    let left = bytes.saturating_sub(text.len());
+    for _comment in 0..left / 60_002 {
+        text.extend_from_slice(comment.as_slice())?;
+    }
+    for _line in 0..left % 60_002 {
+        text.push(b'\n')?;
     }
     Ok(text)
 }
