@@ -1,0 +1,128 @@
+use key_paths::Hop;
+use mesh_base::{Bytes, Items};
+use mesh_records::IdentityRecord;
+use mesh_text::{ClusterName, Ip, PartName};
+
+/// A cluster with its number, from 1 to 255.
+#[derive(Debug, Drop)]
+pub struct Cluster {
+    pub name: ClusterName,
+    pub number: u32,
+}
+
+/// A cluster that is watched.
+#[derive(Debug, Drop)]
+pub struct Remote {
+    pub name: ClusterName,
+    /// From 1 to 255.
+    pub number: u32,
+    /// Which store its agent reads.
+    pub hop: Hop,
+}
+
+/// How many items or revisions at most.
+#[derive(Clone, Copy, Debug, PartialEq, Eq)]
+pub enum Count {
+    /// From 1 to 1,000,000,000.
+    Of(u64),
+    All,
+}
+
+/// The pod that an address is of.
+#[derive(Debug, Drop)]
+pub struct Pod {
+    pub namespace: PartName,
+    pub name: PartName,
+}
+
+/// Which record is withdrawn.
+#[derive(Debug, Drop)]
+pub enum Withdrawn {
+    Node(PartName),
+    Identity(u32),
+    Address(Ip),
+}
+
+/// What is written straight into a remote's store.
+#[derive(Debug, Drop)]
+pub enum RawWrite {
+    /// A pair: 1 to 1,024 bytes of key and up to 32,768 of value.
+    Put { key: Bytes, value: Bytes },
+    /// A key of 1 to 1,024 bytes is deleted.
+    Delete { key: Bytes },
+}
+
+/// What one line of a scenario does. `remote` is a remote's place in the scenario's list.
+#[derive(Debug, Drop)]
+pub enum Action {
+    /// The remote declares a node with these internal addresses.
+    Node {
+        remote: usize,
+        name: PartName,
+        addresses: Items<Ip>,
+    },
+    /// The remote declares an identity with its labels.
+    Identity {
+        remote: usize,
+        identity: u32,
+        labels: IdentityRecord,
+    },
+    /// The remote declares an address with its identity, its host and its pod.
+    Address {
+        remote: usize,
+        ip: Ip,
+        identity: u32,
+        host: Option<Ip>,
+        pod: Option<Pod>,
+    },
+    /// The remote withdraws a record.
+    Withdraw {
+        remote: usize,
+        record: Withdrawn,
+    },
+    /// The remote's exporter starts.
+    Start {
+        remote: usize,
+    },
+    /// The remote's exporter stops.
+    Stop {
+        remote: usize,
+    },
+    /// The remote's exporter renews its lease.
+    Keep {
+        remote: usize,
+    },
+    /// The remote's exporter writes some of its queue.
+    Export {
+        remote: usize,
+        count: Count,
+    },
+    /// A write without lease straight into the remote's store.
+    Raw {
+        remote: usize,
+        write: RawWrite,
+    },
+    /// The clock of every store moves, by 1 to 1,000,000,000 seconds.
+    Tick {
+        seconds: u64,
+    },
+    /// The agent reads the remote's store once, without a limit of revisions.
+    Turn {
+        remote: usize,
+    },
+    /// A report is written.
+    Report,
+}
+
+/// What a text says.
+#[derive(Debug, Drop)]
+pub struct Scenario {
+    /// The cluster from which the mesh is seen.
+    pub local: Cluster,
+    /// The seconds of a lease, from 1 to 1,000,000,000, where the text had them.
+    pub lease: Option<u64>,
+    /// In the order of their lines, with names that differ from each other and from the local one.
+    pub remotes: Items<Remote>,
+    /// In the order of their lines.
+    pub actions: Items<Action>,
+}
