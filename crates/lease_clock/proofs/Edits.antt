@@ -3,10 +3,9 @@ use Rattle.std.proofs.Common.{◌≡◌, ℕ, ◌+◌, ◌≤◌, ◌==◌, List
 use Rattle.std.specs.List.{remove}
 use Rattle.std.proofs.lemmas.List.{map-set, map-append, take-map, drop-map, get_or-map, length-map, map_push}
 use Rattle.std.proofs.lemmas.Bool.Decides.{nat_tests}
-use Rattle.store_api.specs.Contents.{Lease, LeaseTable, is_live_lease}
+use Rattle.store_api.specs.Leases.{Lease, LeaseTable, is_live_lease, deadline_at, deadline_of, kept_alive, renewed, revoked}
 use Rattle.lease_clock.specs.declared.leases.LiveLease.{LiveLease}
 use Rattle.lease_clock.specs.Kept.{IsKept, IsPlace, lease_of, leases_of}
-use Rattle.lease_clock.specs.Lapses.{deadline_at, deadline_of, kept_alive, renewed, revoked}
 use Rattle.lease_clock.proofs.Numbers.{moved, gone, found, deadline_moved, numbered_set, numbered_remove, numbered_push, before_set, before_remove, before_push, before_earlier}
 
 -- a removal is one of the table's lease too

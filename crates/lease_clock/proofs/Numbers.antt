@@ -3,9 +3,9 @@ use Rattle.std.proofs.Common.{◌≡◌, ℕ, zero, suc, ◌<◌, ◌≤◌, ◌
 use Rattle.std.specs.List.{remove, find}
 use Rattle.std.specs.Option.{option_map}
 use Rattle.std.proofs.lemmas.Bool.Decides.{nat_tests}
-use Rattle.store_api.specs.Contents.{Lease, is_live_lease}
+use Rattle.store_api.specs.Leases.{Lease, is_live_lease, deadline_at, kept_alive}
 use Rattle.lease_clock.specs.Kept.{IsBefore}
-use Rattle.lease_clock.specs.Lapses.{IsNumbered, deadline_at, kept_alive}
+use Rattle.lease_clock.specs.Lapses.{IsNumbered}
 
 -- the lease has the number
 abbrev pub has : ℕ → Lease → Bool

@@ -7,7 +7,7 @@ use Rattle.std.proofs.lemmas.Cmp.{ranked}
 use Rattle.std.proofs.lemmas.List.{get_or-map, length-map}
 use Rattle.std.proofs.lemmas.Bool.{cases_lt}
 use Rattle.std.proofs.lemmas.Bool.Decides.{nat_tests}
-use Rattle.store_api.specs.Contents.{Lease, is_live_lease}
+use Rattle.store_api.specs.Leases.{Lease, is_live_lease}
 use Rattle.lease_clock.specs.declared.leases.LiveLease.{LiveLease}
 use Rattle.lease_clock.specs.Kept.{IsPlace, lease_of, leases_of}
 use Rattle.lease_clock.specs.Lapses.{IsNumbered}

@@ -11,10 +11,10 @@ use Rattle.std.specs.FinMap.{keys, contains_key-keys, get-from_entries, entries_
 use Rattle.std.specs.FinMap.Entries.{is_sorted, below_all, find}
 use Rattle.std.specs.BTreeSet.{BTreeSet, IsOrdered}
 use Rattle.std.proofs.lemmas.Map.Lookups.{exact_unsigned, exact_pairs, btree_set_from_contains}
-use Rattle.store_api.specs.Contents.{Lease, LeaseTable}
+use Rattle.store_api.specs.Leases.{Lease, LeaseTable, is_due, rank, rank_cmp, due_by_rank, due_leases}
 use Rattle.lease_clock.specs.declared.leases.LiveLease.{LiveLease}
 use Rattle.lease_clock.specs.Kept.{HasRanks, due_ranks, lease_of, leases_of}
-use Rattle.lease_clock.specs.Lapses.{is_due, rank, rank_cmp, due_by_rank, due_leases, DueInOrder}
+use Rattle.lease_clock.specs.Lapses.{DueInOrder}
 
 -- ranks are in one order
 pub rank_total : IsTotalOrder rank_cmp

@@ -3,9 +3,9 @@ use Rattle.std.specs.Prelude.{◌≡◌, ℕ, ◌<◌, ◌≤◌, false, List, m
 use Rattle.std.specs.List.{AllByRecursion, list_any}
 use Rattle.std.specs.Ordering.{eq_by_cmp}
 use Rattle.std.specs.BTreeSet.{BTreeSet, contains}
-use Rattle.store_api.specs.Contents.{Lease, is_live_lease}
+use Rattle.store_api.specs.Leases.{Lease, is_live_lease, is_due, rank, rank_cmp}
 use Rattle.lease_clock.specs.declared.leases.LiveLease.{LiveLease}
-use Rattle.lease_clock.specs.Lapses.{IsNumbered, is_due, rank, rank_cmp}
+use Rattle.lease_clock.specs.Lapses.{IsNumbered}
 
 -- a kept lease, as the table has it
 abbrev pub lease_of : LiveLease → Lease

@@ -1,70 +1,11 @@
--- What the calls on leases do to a lease table, and which leases are due.
--- Source: etcd's API, Lease service (LeaseGrant, LeaseKeepAlive, LeaseRevoke). That numbers are
--- granted from 1 upwards, and that leases due together lapse by deadline and then number, is this
--- project's own.
-use Rattle.std.specs.Prelude.{◌≡◌, ℕ, ◌+◌, ◌-◌, ◌^◌, ◌==◌, ◌<◌, ◌≤◌, nat_le, min, not, List, [], ◌∷◌, ◌++◌, map, filter, find, Bool, if◌then◌else◌, Option, option_map}
+-- In what order the live leases stand, and the due ones lapse.
+-- Source: etcd's API, Lease service (LeaseGrant). The order is this project's own.
+use Rattle.std.specs.Prelude.{◌≡◌, ℕ, ◌<◌, ◌≤◌, List, [], ◌∷◌, map, filter}
 use Rattle.std.specs.List.{list_any}
 use Rattle.std.specs.List.Sorted.{IsStrictlySortedBy}
-use Rattle.std.specs.Ordering.{nat_cmp, ordering_then, eq_by_cmp}
-use Rattle.std.specs.declared.cmp.Ordering.{Ordering}
-use Rattle.std.specs.FinMap.{FinMap, from_entries, keys}
-use Rattle.store_api.specs.Contents.{Lease, LeaseTable}
-
--- the time so many seconds after this one, and at most the clock's last value
-abbrev pub deadline_at : ℕ → ℕ → ℕ
-deadline_at now seconds = min (now + seconds) (2 ^ 64 - 1)
-
--- no lease, and the clock at 0
-abbrev pub no_leases : LeaseTable
-no_leases = record { now = 0; live = []; last = 0 }
-
--- the lease that is granted next, for these seconds
-abbrev pub next_lease : ℕ → LeaseTable → Lease
-next_lease seconds table = record { number = table.last + 1; seconds = seconds; deadline = deadline_at table.now seconds }
-
--- the table with that lease
-abbrev pub granted : ℕ → LeaseTable → LeaseTable
-granted seconds table = record table { live = table.live ++ next_lease seconds table ∷ []; last = table.last + 1 }
-
--- the lease, with its whole time to live from now on where it has the number
-abbrev pub kept_alive : ℕ → ℕ → Lease → Lease
-kept_alive now number lease = if lease.number == number then record lease { deadline = deadline_at now lease.seconds } else lease
-
--- the table with the deadline of the lease moved
-abbrev pub renewed : ℕ → LeaseTable → LeaseTable
-renewed number table = record table { live = map (kept_alive table.now number) table.live }
-
--- the deadline of the lease, where it is live
-abbrev pub deadline_of : ℕ → LeaseTable → Option ℕ
-deadline_of number table = option_map (λ (lease : Lease). lease.deadline) (find (λ (lease : Lease). lease.number == number) table.live)
-
--- the table with the clock moved
-abbrev pub advanced : ℕ → LeaseTable → LeaseTable
-advanced seconds table = record table { now = deadline_at table.now seconds }
-
--- the table without the lease
-abbrev pub revoked : ℕ → LeaseTable → LeaseTable
-revoked number table = record table { live = filter (λ (lease : Lease). not (lease.number == number)) table.live }
-
--- the deadline is not after the time
-abbrev pub is_due : ℕ → Lease → Bool
-is_due now lease = nat_le lease.deadline now
-
--- what due leases are ordered by: the deadline, and then the number
-abbrev pub rank : Lease → ℕ × ℕ
-rank lease = (lease.deadline, lease.number)
-
--- the order of ranks
-abbrev pub rank_cmp : ℕ × ℕ → ℕ × ℕ → Ordering
-rank_cmp a b = ordering_then (nat_cmp a.0 b.0) (nat_cmp a.1 b.1)
-
--- the due leases by rank
-abbrev pub due_by_rank : LeaseTable → FinMap rank_cmp Lease
-due_by_rank table = from_entries (map (λ (lease : Lease). (rank lease, lease)) (filter (is_due table.now) table.live))
-
--- the numbers of the due leases, in order of their ranks
-abbrev pub due_leases : LeaseTable → List ℕ
-due_leases table = map (λ (r : ℕ × ℕ). r.1) (keys (due_by_rank table))
+use Rattle.std.specs.Ordering.{eq_by_cmp}
+use Rattle.std.specs.FinMap.{keys}
+use Rattle.store_api.specs.Leases.{Lease, LeaseTable, is_due, rank, rank_cmp, due_by_rank}
 
 -- the ranks in that order rise strictly, and are those of the leases that are due
 pub record IsInOrder (table : LeaseTable) : Type 0 where

@@ -1,8 +1,8 @@
 ghost use Rattle.std.specs.Prelude.{◌≡◌, ◌≤◌, ◌<◌, ◌+◌, ◌↔◌, ℕ, [], false, length, map, is_some, IsTrue, OnOk, OnErr, IfOk, IfSome, IfNone, OnSome, Some};
 ghost use Rattle.std.specs.List.{list_any};
-ghost use Rattle.store_api.specs.Contents.{is_live_lease};
+ghost use Rattle.store_api.specs.Leases.{is_live_lease, advanced, deadline_of, due_leases, granted, is_due, no_leases, renewed, revoked};
 ghost use Rattle.lease_clock.specs.Kept.{HasRanks, IsBefore, IsPlace, due_ranks, leases_of};
-ghost use Rattle.lease_clock.specs.Lapses.{IsNumbered, advanced, deadline_of, due_leases, granted, is_due, no_leases, renewed, revoked};
+ghost use Rattle.lease_clock.specs.Lapses.{IsNumbered};
 
 use mesh_base::Memory;
 use std::alloc::{AllocError, Global};
@@ -33,7 +33,7 @@ pub struct Leases {
 }
 
 impl Model for Leases {
-    ghost use Rattle.store_api.specs.Contents.{LeaseTable};
+    ghost use Rattle.store_api.specs.Leases.{LeaseTable};
 
     ghost Value = { LeaseTable };
 

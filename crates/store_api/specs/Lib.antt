@@ -1,7 +1,10 @@
 pub mod Advance
+pub mod Attached
 pub mod Contents
 pub mod Followed
 pub mod History
+pub mod Laws
+pub mod Leases
 pub mod Meaning
 pub mod Sets
 pub mod Spans

@@ -1,11 +1,13 @@
-ghost use Rattle.std.specs.Prelude.{◌≡◌, ◌≢◌, ◌≤◌, ◌⊎◌, ℕ, List, [], IsTrue, All, length, map, IfOk, IfErr, OnOk, Some, None};
+ghost use Rattle.std.specs.Prelude.{◌≡◌, ◌≢◌, ◌≤◌, ◌<◌, ◌⊎◌, ℕ, List, [], true, false, IsTrue, All, length, map, IfOk, IfErr, OnOk, OnErr, Some, None};
 ghost use Rattle.std.specs.List.{IsDistinct};
 ghost use Rattle.mesh_base.specs.Order.{same_bytes};
 ghost use Rattle.store_api.specs.History.{key_of, revision};
-ghost use Rattle.store_api.specs.Contents.{IsListing, after_commit, dead_lease, unchanged};
+ghost use Rattle.store_api.specs.Contents.{IsBatch, IsListing, after_commit, after_compact, after_grant, after_keep_alive, after_tick, dead_lease, unchanged};
+ghost use Rattle.store_api.specs.Leases.{is_live_lease};
 ghost use Rattle.store_api.specs.Meaning.{Meaning, Keeps, Makes, MayMake};
 
-use crate::change::{Listing, Op, Ranges, StoreFault};
+use crate::change::{Batch, Listing, Op, Ranges, StoreFault};
+use mesh_base::Memory;
 use std::alloc::Global;
 
 /// The most operations of one transaction (etcd's `--max-txn-ops` by default).
@@ -46,6 +48,40 @@ pub trait Store {
         ensures named { name self.new ≡ name self.old }
         ensures loans { loans self.new ≡ loans self.old };
 
+    /// Delivers what the revisions from `from` on changed in the ranges (etcd: a watch from there).
+    ///
+    /// The batch covers at most `most` revisions, ends at the store's revision at the latest, and
+    /// has every change of the ranges in it: in the order of the revisions, each once, and no
+    /// revision in parts. Its `upto` says how far it goes, also where the last revisions changed
+    /// other keys; the next pull is from `upto + 1`.
+    ///
+    /// `Compacted` exactly where `from` is at or below the compacted revision. The border is the
+    /// safe one: etcd 3.4 serves a watch from the compacted revision itself, but without the
+    /// deletions of that revision (measured), so a reader that trusts it keeps withdrawn records.
+    fn pull(
+        &mut self,
+        alloc: Global,
+        ranges: &Ranges,
+        from: u64,
+        most: u64,
+    ) -> Result<Batch, StoreFault>
+        requires { 1 ≤ from }
+        ensures batch { IfOk result (IsBatch ranges.now.items from most (meaning self.new).contents) }
+        ensures made { OnOk result (Makes (meaning self.old) (meaning self.new) unchanged) }
+
+        // The history behind the compacted revision alone is there.
+        ensures there { OnOk result ((meaning self.new).contents.compacted < from) }
+        ensures compacted { (compacted : ℕ) → result ≡ Err (StoreFault.Compacted compacted) → (compacted ≡ (meaning self.new).contents.compacted) × (from ≤ compacted) }
+
+        // No effect after a refusal.
+        ensures lost { result ≡ Err StoreFault.Lost → MayMake (meaning self.old) (meaning self.new) unchanged }
+        ensures refused { IfErr result (λ fault. fault ≢ StoreFault.Lost → Makes (meaning self.old) (meaning self.new) unchanged) }
+        ensures not_no_lease { (lease : ℕ) → result ≢ Err (StoreFault.NoLease lease) }
+
+        ensures keeps { Keeps (meaning self.old) (meaning self.new) }
+        ensures named { name self.new ≡ name self.old }
+        ensures loans { loans self.new ≡ loans self.old };
+
     /// Applies the operations as one transaction, and answers the store's revision after it.
     ///
     /// What they change is one revision, in their order. A deletion of a key that is not live
@@ -70,7 +106,74 @@ pub trait Store {
         ensures keeps { Keeps (meaning self.old) (meaning self.new) }
         ensures named { name self.new ≡ name self.old }
         ensures loans { loans self.new ≡ loans self.old };
+
+    /// Grants a lease of so many seconds, and answers its number (etcd: LeaseGrant).
+    ///
+    /// It is live until the store's clock reaches its deadline, which is so many seconds from now.
+    fn grant(&mut self, alloc: Global, seconds: u64) -> Result<u64, StoreFault>
+        requires { 1 ≤ seconds }
+        ensures made { OnOk result (Makes (meaning self.old) (meaning self.new) (after_grant seconds)) }
+        ensures number { IfOk result (λ number. number ≡ (meaning self.new).contents.leases.last) }
+
+        // A lost grant was made whole or not at all, and another refusal has no effect.
+        ensures lost { result ≡ Err StoreFault.Lost → MayMake (meaning self.old) (meaning self.new) (after_grant seconds) }
+        ensures refused { IfErr result (λ fault. fault ≢ StoreFault.Lost → Makes (meaning self.old) (meaning self.new) unchanged) }
+        ensures refusals { IfErr result (λ fault. (fault ≡ StoreFault.Lost) ⊎ (fault ≡ StoreFault.Memory)) }
+
+        ensures keeps { Keeps (meaning self.old) (meaning self.new) }
+        ensures named { name self.new ≡ name self.old }
+        ensures loans { loans self.new ≡ loans self.old };
+
+    /// Moves the lease's deadline to now plus the seconds that were granted (etcd: LeaseKeepAlive).
+    ///
+    /// Takes no memory.
+    fn keep_alive(&mut self, lease: u64) -> Result<(), StoreFault>
+        ensures made { OnOk result (Makes (meaning self.old) (meaning self.new) (after_keep_alive lease)) }
+
+        // A lease that is not live is refused.
+        ensures live { OnOk result (is_live_lease (meaning self.new).contents.leases.live lease ≡ true) }
+        ensures no_lease { (named : ℕ) → result ≡ Err (StoreFault.NoLease named) → (named ≡ lease) × (is_live_lease (meaning self.new).contents.leases.live lease ≡ false) }
+
+        // A lost call was made whole or not at all, and another refusal has no effect.
+        ensures lost { result ≡ Err StoreFault.Lost → MayMake (meaning self.old) (meaning self.new) (after_keep_alive lease) }
+        ensures refused { IfErr result (λ fault. fault ≢ StoreFault.Lost → Makes (meaning self.old) (meaning self.new) unchanged) }
+        ensures refusals { IfErr result (λ fault. (fault ≡ StoreFault.Lost) ⊎ (fault ≡ StoreFault.NoLease lease)) }
+
+        ensures keeps { Keeps (meaning self.old) (meaning self.new) }
+        ensures named { name self.new ≡ name self.old }
+        ensures loans { loans self.new ≡ loans self.old };
 }
 
 /// What is done to a store from outside the control plane.
-pub trait StoreAdmin: Store {}
+pub trait StoreAdmin: Store {
+    /// Moves the store's clock on by so many seconds, and answers the store's revision after it.
+    ///
+    /// Each lease whose deadline is at or before the new time lapses, in order of deadline and then
+    /// number: its live keys are deleted in one revision, in byte order, and a lease without keys
+    /// makes none. A clock that would pass 2 ^ 64 - 1 stays there.
+    fn tick(&mut self, alloc: Global, seconds: u64) -> Result<u64, StoreFault>
+        ensures made { OnOk result (Makes (Self.meaning self.old) (Self.meaning self.new) (after_tick seconds)) }
+        ensures revision { IfOk result (λ number. number ≡ revision (Self.meaning self.new).contents.history) }
+
+        // A lost tick was made whole or not at all, and another refusal has no effect.
+        ensures lost { result ≡ Err StoreFault.Lost → MayMake (Self.meaning self.old) (Self.meaning self.new) (after_tick seconds) }
+        ensures refused { IfErr result (λ fault. fault ≢ StoreFault.Lost → Makes (Self.meaning self.old) (Self.meaning self.new) unchanged) }
+        ensures refusals { IfErr result (λ fault. (fault ≡ StoreFault.Lost) ⊎ (fault ≡ StoreFault.Memory)) }
+
+        ensures keeps { Keeps (Self.meaning self.old) (Self.meaning self.new) }
+        ensures named { Self.name self.new ≡ Self.name self.old }
+        ensures loans { Self.loans self.new ≡ Self.loans self.old };
+
+    /// Compacts the history up to `upto`, and answers the compacted revision (etcd: Compact).
+    ///
+    /// It is at most the store's revision, and never falls. Pulls from there or before are refused
+    /// from then on; what is live stays.
+    fn compact(&mut self, alloc: Global, upto: u64) -> Result<u64, Memory>
+        ensures made { OnOk result (Makes (Self.meaning self.old) (Self.meaning self.new) (after_compact upto)) }
+        ensures number { IfOk result (λ number. number ≡ (Self.meaning self.new).contents.compacted) }
+        ensures refused { OnErr result (Makes (Self.meaning self.old) (Self.meaning self.new) unchanged) }
+
+        ensures keeps { Keeps (Self.meaning self.old) (Self.meaning self.new) }
+        ensures named { Self.name self.new ≡ Self.name self.old }
+        ensures loans { Self.loans self.new ≡ Self.loans self.old };
+}

@@ -1,7 +1,7 @@
 use Rattle.std.proofs.Common.{◌≡◌, drop}
 use Rattle.std.specs.List.{list_any}
 use Rattle.lease_clock.specs.Kept.{leases_of}
-use Rattle.lease_clock.specs.Lapses.{is_due}
+use Rattle.store_api.specs.Leases.{is_due}
 use Rattle.lease_clock.proofs.leases.any_due.Given as goal
 
 -- what is left has a due lease where all have one

@@ -1,7 +1,7 @@
 use Rattle.std.proofs.Common.{ℕ, ◌+◌, ◌||◌, Bool, drop, ap, sym, ◌∙◌}
 use Rattle.std.proofs.lemmas.List.{at_drop_more}
 use Rattle.std.specs.BTreeSet.{BTreeSet, contains}
-use Rattle.lease_clock.specs.Lapses.{rank_cmp}
+use Rattle.store_api.specs.Leases.{rank_cmp}
 use Rattle.lease_clock.proofs.Ranks.{any_rank, one_due, not_due}
 use Rattle.lease_clock.proofs.leases.due_ranks.Goals as goal
 use Rattle.lease_clock.proofs.leases.due_ranks.Goals.{then-lease-now+in_ok-insert, else-lease-now}

@@ -3,7 +3,7 @@ use Rattle.std.specs.List.{list_any}
 use Rattle.std.specs.Ordering.{eq_by_cmp}
 use Rattle.std.specs.BTreeSet.{contains}
 use Rattle.lease_clock.specs.Kept.{due_ranks, leases_of}
-use Rattle.lease_clock.specs.Lapses.{rank_cmp}
+use Rattle.store_api.specs.Leases.{rank_cmp}
 use Rattle.lease_clock.proofs.leases.due_ranks.Given as goal
 
 -- the set, and what is left, have the ranks of all due leases

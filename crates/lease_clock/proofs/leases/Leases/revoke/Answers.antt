@@ -1,5 +1,5 @@
 use Rattle.std.proofs.Common.{sym, ap}
-use Rattle.store_api.specs.Contents.{Lease}
+use Rattle.store_api.specs.Leases.{Lease}
 use Rattle.std.proofs.Common.{List}
 use Rattle.lease_clock.proofs.Edits.{is_there, revokes, kept_remove}
 use Rattle.lease_clock.proofs.Numbers.{none_gone}

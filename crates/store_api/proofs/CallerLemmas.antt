@@ -1,0 +1,45 @@
+-- What the crates above may cite of histories.
+use Rattle.std.proofs.Common.{◌≡◌, ℕ, zero, suc, List, [], ◌∷◌, Option, None, Some, Bool, true, false, cond, is_some, IsTrue, refl, ap, ◌∙◌}
+use Rattle.std.specs.Ordering.{nat_cmp}
+use Rattle.std.specs.Cmp.Lexicographic.{slice_cmp, nat_list_cmp_total}
+use Rattle.std.specs.Cmp.{eq_by_cmp_equiv}
+use Rattle.std.specs.FinMap.{get, get-empty, get-insert, get-remove}
+use Rattle.mesh_base.specs.Order.{same_bytes}
+use Rattle.store_api.specs.Attached.{lease_after, lease_after_all, lease_at}
+use Rattle.store_api.specs.History.{History, Pairing, changes_at, live_at, map_at, after_all, changed_map, after_change, after_changes}
+use Rattle.store_api.specs.Laws.{AttachedAreLive}
+use Rattle.store_api.specs.declared.change.Change.{Change}
+use Rattle.store_api.specs.declared.change.Change.TheVariants as change
+
+-- what a finite map has at a key after a change, and after changes
+pub get-changed : (m : Pairing) (c : Change) (k : List ℕ) → get (changed_map m c) k ≡ after_change k (get m k) c
+get-changed m (change.Put key value lease) k = get-insert nat_list_cmp_total m key value k ∙ ap (λ (b : Bool). cond b (Some value) (get m k)) ((eq_by_cmp_equiv nat_list_cmp_total).symm k key)
+get-changed m (change.Delete key) k = get-remove nat_list_cmp_total m key k ∙ ap (λ (b : Bool). cond b None (get m k)) ((eq_by_cmp_equiv nat_list_cmp_total).symm k key)
+
+pub get-after_all : (m : Pairing) (changes : List Change) (k : List ℕ) → get (after_all m changes) k ≡ after_changes k (get m k) changes
+get-after_all m [] k = refl
+get-after_all m (c ∷ changes) k = get-after_all (changed_map m c) changes k ∙ ap (λ (o : Option (List ℕ)). after_changes k o changes) (get-changed m c k)
+
+-- the two readings of what is live
+pub get-map_at : (h : History) (r : ℕ) (k : List ℕ) → get (map_at h r) k ≡ live_at h r k
+get-map_at h zero k = get-empty (slice_cmp nat_cmp) k
+get-map_at h (suc r) k = get-after_all (map_at h r) (changes_at h (suc r)) k ∙ ap (λ (o : Option (List ℕ)). after_changes k o (changes_at h (suc r))) (get-map_at h r k)
+
+-- a lease is named only beside a value
+abbrev pub IsBeside : Option ℕ → Option (List ℕ) → Type 0
+IsBeside lease value = IsTrue (is_some lease) → IsTrue (is_some value)
+
+beside_one : (k : List ℕ) (lease : Option ℕ) (value : Option (List ℕ)) (c : Change) → IsBeside lease value → IsBeside (lease_after k lease c) (after_change k value c)
+beside_one k lease value (change.Put key v l) beside =
+    elim (same_bytes key k) as (λ b. IsBeside (cond b l lease) (cond b (Some v) value)) [ true ↦ λ some. refl | false ↦ beside ]
+beside_one k lease value (change.Delete key) beside =
+    elim (same_bytes key k) as (λ b. IsBeside (cond b None lease) (cond b None value)) [ true ↦ λ some. some | false ↦ beside ]
+
+pub beside_all : (k : List ℕ) (lease : Option ℕ) (value : Option (List ℕ)) (changes : List Change) → IsBeside lease value → IsBeside (lease_after_all k lease changes) (after_changes k value changes)
+beside_all k lease value [] beside = beside
+beside_all k lease value (c ∷ changes) beside = beside_all k (lease_after k lease c) (after_change k value c) changes (beside_one k lease value c beside)
+
+-- a key is attached to a lease only while it is live
+pub attached_live : AttachedAreLive
+attached_live h zero k = λ some. some
+attached_live h (suc r) k = beside_all k (lease_at h r k) (live_at h r k) (changes_at h (suc r)) (attached_live h r k)

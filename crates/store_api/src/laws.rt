@@ -1,0 +1,12 @@
+ghost use Rattle.store_api.specs.Laws.{AttachedAreLive, ReadingsAgree};
+
+/// What is live in a history is the same by the last change of each key and by the finite map that
+/// all changes make.
+pub fn readings_agree()
+    ensures { ReadingsAgree }
+{}
+
+/// A key is attached to a lease only while it is live.
+pub fn attached_are_live()
+    ensures { AttachedAreLive }
+{}
