@@ -4,4 +4,5 @@ pub mod Cuts
 pub mod Fronts
 pub mod LabelSteps
 pub mod LabelsBack
+pub mod Orders
 pub mod Written

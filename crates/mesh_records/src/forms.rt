@@ -62,7 +62,7 @@ fn is_alphanumeric(name: &[u8]) -> bool
 }
 
 /// 1 to 16 ASCII letters or digits.
-fn is_protocol(name: &[u8]) -> bool
+pub(crate) fn is_protocol(name: &[u8]) -> bool
     ensures { result ≡ is_protocol name.now }
 {
     1 <= name.len() && name.len() <= 16 && is_alphanumeric(name)

@@ -1,3 +1,8 @@
+ghost use Rattle.std.specs.Prelude.{◌≡◌, ◌<◌, Some, None, IfSome, length, if◌then◌else◌};
+ghost use Rattle.mesh_records.specs.Backends.{AreInOrder, is_protocol};
+ghost use Rattle.mesh_records.specs.Labels.{IsLabel};
+
+use crate::forms::is_protocol;
 use mesh_base::{Bytes, Items};
 use mesh_text::{Ip, Text};
 use std::marker::Model;
@@ -26,6 +31,21 @@ impl Model for ClusterConfig {
     ghost invariant = { λ c. 0 < c.max_connected };
 
     ghost inverse = { λ c. record { id = c.id; synced_canaries = c.synced_canaries; cached = c.cached; max_connected = c.max_connected } };
+}
+
+impl ClusterConfig {
+    /// The config of these parts.
+    pub fn new(id: u32, synced_canaries: bool, cached: bool, max_connected: u32) -> ClusterConfig
+        requires { 0 < max_connected }
+        ensures { result ≡ record { id = id; synced_canaries = synced_canaries; cached = cached; max_connected = max_connected } }
+    {
+        ClusterConfig {
+            id,
+            synced_canaries,
+            cached,
+            max_connected,
+        }
+    }
 }
 
 /// A node of a cluster.
@@ -64,6 +84,29 @@ impl Model for AddressRecord {
     ghost invariant = { λ a. IfSome a.namespace (λ t. 0 < length t) × IfSome a.pod (λ t. 0 < length t) };
 }
 
+impl AddressRecord {
+    /// The address of these parts; a namespace or a pod that is there has a name.
+    pub fn new(
+        ip: Ip,
+        host: Option<Ip>,
+        id: u32,
+        namespace: Option<Text>,
+        pod: Option<Text>,
+    ) -> AddressRecord
+        requires namespace { IfSome namespace (λ name. 0 < length name) }
+        requires pod { IfSome pod (λ name. 0 < length name) }
+        ensures { result ≡ record { ip = ip; host = host; id = id; namespace = namespace; pod = pod } }
+    {
+        AddressRecord {
+            ip,
+            host,
+            id,
+            namespace,
+            pod,
+        }
+    }
+}
+
 /// A label of an identity, as `k8s:app=web;`.
 #[derive(Debug, Drop)]
 pub struct Label {
@@ -85,6 +128,16 @@ impl Model for Label {
     ghost view = { λ l. record { source = l.source; key = l.key; value = l.value } };
 
     ghost invariant = { λ l. IsLabel (record { source = l.source; key = l.key; value = l.value }) };
+}
+
+impl Label {
+    /// The label of these parts.
+    pub fn new(source: Bytes, key: Bytes, value: Bytes) -> Label
+        requires { IsLabel (record { source = source; key = key; value = value }) }
+        ensures { result ≡ record { source = source; key = key; value = value } }
+    {
+        Label { source, key, value }
+    }
 }
 
 /// The labels of an identity, in the order of the value.
@@ -116,6 +169,24 @@ impl Model for Backend {
     ghost invariant = { λ b. is_protocol b.protocol ≡ true };
 }
 
+impl Backend {
+    /// The backend of these parts, `None` exactly where `protocol` is not 1 to 16 ASCII letters or
+    /// digits.
+    pub fn new(ip: Ip, port: u16, protocol: Text, port_name: Text) -> Option<Backend>
+        ensures { result ≡ (if is_protocol protocol then Some (record { ip = ip; port = port; protocol = protocol; port_name = port_name }) else None) }
+    {
+        if !is_protocol(protocol.as_bytes()) {
+            return None;
+        }
+        Some(Backend {
+            ip,
+            port,
+            protocol,
+            port_name,
+        })
+    }
+}
+
 /// A service, with the backends that its cluster offers for it.
 #[derive(Debug, Drop)]
 pub struct ServiceRecord {
@@ -135,7 +206,36 @@ impl Model for ServiceRecord {
 
     ghost Value = { Service };
 
+    ghost use Rattle.mesh_records.specs.Backends.{AreInOrder};
+
     ghost view = { λ s. record { cluster = s.cluster; namespace = s.namespace; name = s.name; cluster_id = s.cluster_id; backends = s.backends; shared = s.shared } };
+
+    ghost invariant = { λ s. AreInOrder s.backends };
+}
+
+impl ServiceRecord {
+    /// The service of these parts, whose backends stand in order of address and port name, no two
+    /// equal in both.
+    pub fn new(
+        cluster: Text,
+        namespace: Text,
+        name: Text,
+        cluster_id: u32,
+        backends: Items<Backend>,
+        shared: bool,
+    ) -> ServiceRecord
+        requires { AreInOrder backends }
+        ensures { result ≡ record { cluster = cluster; namespace = namespace; name = name; cluster_id = cluster_id; backends = backends; shared = shared } }
+    {
+        ServiceRecord {
+            cluster,
+            namespace,
+            name,
+            cluster_id,
+            backends,
+            shared,
+        }
+    }
 }
 
 /// A record of one of the four kinds.

@@ -1,10 +1,11 @@
 ghost use Rattle.std.specs.Prelude.{◌≡◌, [], IfOk, is_some, option_map};
-ghost use Rattle.std.specs.List.{flat_map};
+ghost use Rattle.std.specs.List.{AllByRecursion, flat_map};
 ghost use Rattle.std.specs.Map.{lookup};
 ghost use Rattle.std.specs.BTreeMap.{insert_entry, is_at};
 ghost use Rattle.serde_json.specs.View.{view, members_view};
 ghost use Rattle.mesh_text.specs.Laws.{ip_cmp};
 ghost use Rattle.mesh_records.specs.Judgement.{Gives, GivesSeen, judged};
+ghost use Rattle.mesh_records.specs.Backends.{AreInOrder, ArePortsOf};
 ghost use Rattle.mesh_records.specs.Forms.{optional};
 ghost use Rattle.mesh_records.specs.Service.{addresses_of, backends, port_of, ports_of, service_of};
 
@@ -54,7 +55,8 @@ fn read_ports(
     ip: Ip,
     ports: &BTreeMap<String, Value>,
 ) -> Result<Items<Backend>, ReadFault>
-    ensures { Gives result (ports_of ip (members_view ports.now.entries)) }
+    ensures read { Gives result (ports_of ip (members_view ports.now.entries)) }
+    ensures ordered { IfOk result (λ backends. ArePortsOf ip backends) }
 {
     let mut backends = Vec::new(alloc);
     for (name, value) in ports {
@@ -77,7 +79,8 @@ fn put_address(addresses: &mut Addresses, ip: Ip, ports: Items<Backend>) -> Resu
 }
 
 fn read_addresses(alloc: Global, members: &BTreeMap<String, Value>) -> Result<Addresses, ReadFault>
-    ensures { GivesSeen (λ m. m.entries) result (addresses_of [] (members_view members.now.entries)) }
+    ensures read { GivesSeen (λ m. m.entries) result (addresses_of [] (members_view members.now.entries)) }
+    ensures ordered { IfOk result (λ m. AllByRecursion (λ a. ArePortsOf a.0 a.1) m.entries) }
 {
     let mut addresses = BTreeMap::new(alloc);
     for (name, value) in members {
@@ -97,7 +100,9 @@ fn read_addresses(alloc: Global, members: &BTreeMap<String, Value>) -> Result<Ad
 
 /// All ports, one address behind the other.
 fn all_ports(alloc: Global, addresses: Addresses) -> Result<Items<Backend>, Memory>
-    ensures { IfOk result (λ v. v ≡ flat_map (λ a. a.1) addresses.entries) }
+    requires { AllByRecursion (λ a. ArePortsOf a.0 a.1) addresses.entries }
+    ensures ports { IfOk result (λ v. v ≡ flat_map (λ a. a.1) addresses.entries) }
+    ensures ordered { IfOk result (λ v. AreInOrder v) }
 {
     let mut backends = Vec::new(alloc);
     for (_, ports) in addresses {
@@ -112,7 +117,8 @@ fn optional_backends(
     field: &str,
     member: Option<&Value>,
 ) -> Result<Items<Backend>, ReadFault>
-    ensures { Gives result (optional backends [] field.now (option_map (λ v. view v.now) member.entry)) }
+    ensures read { Gives result (optional backends [] field.now (option_map (λ v. view v.now) member.entry)) }
+    ensures ordered { IfOk result (λ v. AreInOrder v) }
 {
     let Some(value) = member else {
         return Ok(Items::new(alloc));
