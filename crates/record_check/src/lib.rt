@@ -1,0 +1,18 @@
+//! The first fault of a pair of a cluster's records, or the record that it says.
+//!
+//! `limit` has the numbers that a mesh is limited to, `fault` what can be wrong with a pair. `read`
+//! takes a pair apart by its bytes alone, `judge` holds what was read against the cluster that it
+//! came from, `check` does both, and `config` does the same for a cluster's config. `laws` says
+//! what these have to do with each other.
+//! It knows nothing of stores, readers or tables.
+#![tactic(auto)]
+
+mod fault;
+mod judging;
+mod limit;
+mod reading;
+
+pub use fault::Fault;
+pub use judging::judge;
+pub use limit::Limit;
+pub use reading::read_pair;
