@@ -1,1 +1,5 @@
 mod Examples
+pub mod Forms
+pub mod Parting
+pub mod Writing
+pub mod FrontLemmas

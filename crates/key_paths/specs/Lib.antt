@@ -2,4 +2,5 @@ pub mod Beginnings
 pub mod Paths
 pub mod Keys
 pub mod Reading
+pub mod Parts
 pub mod Mapping

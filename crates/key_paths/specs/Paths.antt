@@ -12,6 +12,9 @@ use Rattle.key_paths.specs.Beginnings.{beginning}
 abbrev pub kinds : List Kind
 kinds = Nodes ∷ Services ∷ Identities ∷ Addresses ∷ []
 
+abbrev pub hops : List Hop
+hops = State ∷ Cache ∷ []
+
 abbrev pub hop_word : Hop → List ℕ
 hop_word State = codes "state"
 hop_word Cache = codes "cache"

@@ -1,5 +1,5 @@
 -- The key of given bytes, or the first of their faults.
-use Rattle.std.specs.Prelude.{◌≡◌, ◌⊎◌, ℕ, ◌+◌, ◌^◌, ◌&&◌, nat_lt, bytes_eq, Bool, true, List, [], ◌∷◌, length, drop, codes, Option, None, Some, option_and_then, Result, Ok, Err, if◌then◌else◌}
+use Rattle.std.specs.Prelude.{◌≡◌, ◌⊎◌, ℕ, ◌+◌, ◌^◌, ◌&&◌, nat_lt, bytes_eq, List, [], ◌∷◌, length, drop, codes, Option, None, Some, option_map, option_and_then, find, Result, Ok, Err, if◌then◌else◌}
 use Rattle.mesh_text.specs.declared.ip.Ip.{Ip}
 use Rattle.mesh_text.specs.declared.kind.Kind.{Kind}
 use Rattle.mesh_text.specs.declared.kind.Kind.TheVariants.{Nodes, Services, Identities, Addresses}
@@ -15,7 +15,7 @@ use Rattle.key_paths.specs.declared.key.Key.TheVariants as key
 use Rattle.key_paths.specs.declared.fault.KeyFault.{KeyFault}
 use Rattle.key_paths.specs.declared.fault.KeyFault.TheVariants as fault
 use Rattle.key_paths.specs.Beginnings.{beginning, front_at}
-use Rattle.key_paths.specs.Paths.{hop_word, kind_word}
+use Rattle.key_paths.specs.Paths.{hops, kinds, hop_word, kind_word}
 
 infixl 10 ◌>>=◌
 -- first this judgement, then the next with what it gave; the first fault is the answer
@@ -67,42 +67,38 @@ abbrev pub ip_at : Place → Result Ip KeyFault
 ip_at part = or_fault (canonical_address_of part.text) (fault.Address part.at)
 
 -- there are not the parts that there must be
-abbrev pub other_parts : List Place → Result Key KeyFault
+abbrev pub other_parts : {X : Type 0} → List Place → Result X KeyFault
 other_parts parts = Err (fault.Parts (length parts))
 
 -- a cluster alone
-abbrev pub cluster_alone : (List ℕ → Key) → List Place → Result Key KeyFault
-cluster_alone made (cluster ∷ []) = do
-  cluster ← cluster_at cluster
-  Ok (made cluster)
-cluster_alone made parts = other_parts parts
+abbrev pub cluster_alone : List Place → Result (List ℕ) KeyFault
+cluster_alone (cluster ∷ []) = cluster_at cluster
+cluster_alone parts = other_parts parts
 
+-- the hop and the kind whose words these are
 abbrev pub hop_named : List ℕ → Option Hop
-hop_named text =
-    if bytes_eq text (hop_word State) then Some State
-    else if bytes_eq text (hop_word Cache) then Some Cache
-    else None
+hop_named text = find (λ hop. bytes_eq text (hop_word hop)) hops
 
 abbrev pub kind_named : List ℕ → Option Kind
-kind_named text =
-    if bytes_eq text (kind_word Nodes) then Some Nodes
-    else if bytes_eq text (kind_word Services) then Some Services
-    else if bytes_eq text (kind_word Identities) then Some Identities
-    else if bytes_eq text (kind_word Addresses) then Some Addresses
+kind_named text = find (λ kind. bytes_eq text (kind_word kind)) kinds
+
+-- the hop and the kind of which four parts are the path, as `cilium/state/nodes/v1`
+abbrev pub path_of : List ℕ → List ℕ → List ℕ → List ℕ → Option (Hop × Kind)
+path_of first hop kind last =
+    if bytes_eq first (codes "cilium") && bytes_eq last (codes "v1")
+    then option_and_then (λ hop. option_map (λ kind. (hop, kind)) (kind_named kind)) (hop_named hop)
     else None
 
--- the key of a mark, where the four parts behind its cluster are the path of a kind
-abbrev pub mark_from : Place → Option Hop → Option Kind → Bool → Result Key KeyFault
-mark_from cluster (Some hop) (Some kind) true = do
+abbrev pub mark_from : Place → Option (Hop × Kind) → Result Key KeyFault
+mark_from cluster None = Err (fault.Parts 5)
+mark_from cluster (Some path) = do
   cluster ← cluster_at cluster
-  Ok (key.Synced cluster hop kind)
-mark_from cluster _ _ _ = Err (fault.Parts 5)
+  Ok (key.Synced cluster path.0 path.1)
 
--- a cluster and the path of a kind, as `cilium/state/nodes/v1`
+-- a cluster and the path of a kind
 abbrev pub mark_of_parts : List Place → Result Key KeyFault
 mark_of_parts (cluster ∷ first ∷ hop ∷ kind ∷ last ∷ []) =
-    mark_from cluster (hop_named hop.text) (kind_named kind.text)
-    (bytes_eq first.text (codes "cilium") && bytes_eq last.text (codes "v1"))
+    mark_from cluster (path_of first.text hop.text kind.text last.text)
 mark_of_parts parts = other_parts parts
 
 -- a cluster and a node
@@ -113,13 +109,19 @@ node_of_parts hop (cluster ∷ node ∷ []) = do
   Ok (key.Node hop cluster node)
 node_of_parts hop parts = other_parts parts
 
+-- a namespace and a name in it
+abbrev pub names_at : Place → Place → Result (List ℕ × List ℕ) KeyFault
+names_at namespace name = do
+  namespace ← name_at namespace
+  name ← name_at name
+  Ok (namespace, name)
+
 -- a cluster, a namespace and a name
 abbrev pub service_of_parts : Hop → List Place → Result Key KeyFault
 service_of_parts hop (cluster ∷ namespace ∷ name ∷ []) = do
   cluster ← cluster_at cluster
-  namespace ← name_at namespace
-  name ← name_at name
-  Ok (key.Service hop cluster namespace name)
+  names ← names_at namespace name
+  Ok (key.Service hop cluster names.0 names.1)
 service_of_parts hop parts = other_parts parts
 
 -- a number, in a cache behind a cluster and the word `id`
@@ -154,10 +156,14 @@ record_of_parts Addresses hop parts = address_of_parts hop parts
 
 -- the key that parts behind a beginning make
 abbrev pub key_of_parts : Front → List Place → Result Key KeyFault
-key_of_parts Configs parts = cluster_alone key.Config parts
+key_of_parts Configs parts = do
+  cluster ← cluster_alone parts
+  Ok (key.Config cluster)
 key_of_parts Marks parts = mark_of_parts parts
 key_of_parts (Records hop kind) parts = record_of_parts kind hop parts
-key_of_parts Cuts parts = cluster_alone key.Cut parts
+key_of_parts Cuts parts = do
+  cluster ← cluster_alone parts
+  Ok (key.Cut cluster)
 
 abbrev pub key_behind : Option Front → List ℕ → Result Key KeyFault
 key_behind None bytes = Err fault.UnknownPrefix

@@ -8,8 +8,15 @@ mod fault;
 mod front;
 mod hop;
 mod key;
+mod parts;
+mod paths;
+mod read;
+mod words;
+mod write;
 
 pub use fault::KeyFault;
 pub use hop::Hop;
 pub use key::Key;
 pub use mesh_text::Kind;
+pub use read::read_key;
+pub use write::write_key;
