@@ -1,6 +1,7 @@
 -- What the calls of an exporter on a store do: to the store, and to the exporter.
-use Rattle.std.specs.Prelude.{◌≡◌, ◌⊎◌, ◌<◌, ℕ, zero, suc, Some, None}
-use Rattle.store_api.specs.Contents.{after_commit, dead_lease, unchanged}
+use Rattle.std.specs.Prelude.{◌≡◌, ◌⊎◌, ◌<◌, ℕ, zero, suc, Some, None, true, false}
+use Rattle.store_api.specs.Contents.{after_commit, after_grant, after_keep_alive, dead_lease, unchanged}
+use Rattle.store_api.specs.Leases.{is_live_lease}
 use Rattle.store_api.specs.Meaning.{Meaning, Keeps, Makes, MayMake}
 use Rattle.exporter.specs.State.{Export, next_ops, after_item, after_items, after_stop, turns}
 use Rattle.exporter.specs.declared.fault.ExportFault.{ExportFault}
@@ -40,3 +41,25 @@ pub record StopsAt (fault : ExportFault) (most : ℕ) (s s' : Export) (old new :
   pub fewer : done < turns most s
   pub written : WritesAll done s old mid
   pub refused : Refuses fault (after_items done s) s' mid new
+
+-- the exporter's lease lives on
+pub record KeepsLease (lease : ℕ) (old new : Meaning) : Type 0 where
+  pub made : Makes old new (after_keep_alive lease)
+  pub live : is_live_lease new.contents.leases.live lease ≡ true
+
+-- the call that keeps this lease was lost
+pub record LosesKeep (lease : ℕ) (s : Export) (old new : Meaning) : Type 0 where
+  pub named : s.lease ≡ Some lease
+  pub lost : MayMake old new (after_keep_alive lease)
+
+-- why the lease was not kept, and what that left; it never wants memory
+abbrev pub RefusesKeep : ExportFault → Export → Export → Meaning → Meaning → Type 0
+RefusesKeep Lost s s' old new = ((lease : ℕ) × LosesKeep lease s old new) × (s' ≡ s)
+RefusesKeep (NoLease lease) s s' old new = (is_live_lease new.contents.leases.live lease ≡ false) × LosesLease lease s s' old new
+RefusesKeep Memory s s' old new = ⊥
+
+-- why no lease was granted; the exporter is as before
+abbrev pub RefusesStart : ExportFault → Export → Meaning → Meaning → Type 0
+RefusesStart Lost s old new = MayMake old new (after_grant s.seconds)
+RefusesStart (NoLease lease) s old new = ⊥
+RefusesStart Memory s old new = HasNoEffect old new

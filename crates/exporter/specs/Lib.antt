@@ -1,2 +1,4 @@
 pub mod State
+pub mod Kept
 pub mod Calls
+pub mod Fields

@@ -2,17 +2,18 @@
 -- Source: Cilium's ClusterMesh documentation (the clustermesh-apiserver exports a cluster's records
 -- under a lease, and a synced canary behind the records of each kind) and etcd's API, Lease service
 -- (a key that is put under a lease is deleted when the lease lapses).
-use Rattle.std.specs.Prelude.{ℕ, zero, suc, ◌&&◌, List, [], ◌∷◌, ◌++◌, map, drop, codes, length, min, slice_set, Bool, true, false, if◌then◌else◌, Option, None, Some, is_some}
+use Rattle.std.specs.Prelude.{◌≡◌, ◌<◌, ◌≤◌, ◌^◌, IsTrue, ℕ, zero, suc, ◌&&◌, List, [], ◌∷◌, ◌++◌, map, drop, codes, length, min, slice_set, Bool, true, false, if◌then◌else◌, Option, None, Some, is_some}
 use Rattle.std.specs.FinMap.{get, contains_key, insert, remove, empty, keys}
 use Rattle.std.specs.List.{list_any, list_all}
 use Rattle.mesh_base.specs.Order.{same_bytes}
+use Rattle.mesh_text.specs.Names.{is_cluster_name}
 use Rattle.mesh_text.specs.declared.kind.Kind.{Kind}
 use Rattle.mesh_text.specs.declared.kind.Kind.TheVariants.{Nodes, Services, Identities, Addresses}
-use Rattle.store_api.specs.History.{Pairing}
+use Rattle.store_api.specs.History.{Pairing, in_ranges}
 use Rattle.store_api.specs.declared.change.Op.{Op}
 use Rattle.store_api.specs.declared.change.Op.TheVariants as op
 use Rattle.key_paths.specs.declared.hop.Hop.TheVariants.{State}
-use Rattle.key_paths.specs.Paths.{kinds, config_key, mark_key}
+use Rattle.key_paths.specs.Paths.{kinds, config_key, mark_key, record_ranges}
 use Rattle.mesh_records.specs.Trees.{config_tree}
 use Rattle.mesh_records.specs.Values.{Config}
 use Rattle.record_check.specs.Limits.{last_cluster}
@@ -78,14 +79,14 @@ record_item key = item.Record key
 abbrev pub mark_item : Kind → Item
 mark_item kind = item.Mark kind
 
--- all that is exported: the config, the declared records in byte order of their keys, and the marks
--- behind them
-abbrev pub everything : Pairing → List Item
-everything declared = item.Config ∷ (map record_item (keys declared) ++ map mark_item kinds)
+-- all that is exported, where records are declared under these keys: the config, the records, and
+-- the marks behind them
+abbrev pub everything : List (List ℕ) → List Item
+everything records = item.Config ∷ (map record_item records ++ map mark_item kinds)
 
 -- after a start with this lease
 abbrev pub after_start : ℕ → Export → Export
-after_start lease s = record s { queue = everything s.declared; lease = Some lease; marked = unmarked }
+after_start lease s = record s { queue = everything (keys s.declared); lease = Some lease; marked = unmarked }
 
 -- after a stop: nothing waits, and the lease is left to lapse
 abbrev pub after_stop : Export → Export
@@ -143,3 +144,12 @@ next_ops s = ops_of s s.queue
 -- how many items an export of at most so many writes
 abbrev pub turns : ℕ → Export → ℕ
 turns most s = min most (length s.queue)
+
+-- what holds of every exporter: nothing waits where it is stopped, and what is declared are records
+-- of its cluster
+pub record IsExport (s : Export) : Type 0 where
+  pub stopped : s.lease ≡ None → s.queue ≡ []
+  pub number : s.number < 2 ^ 32
+  pub seconds : 1 ≤ s.seconds
+  pub cluster : IsTrue (is_cluster_name s.cluster)
+  pub records : (key : List ℕ) → IsTrue (contains_key s.declared key) → IsTrue (in_ranges (record_ranges s.cluster State) key)
