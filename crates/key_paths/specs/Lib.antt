@@ -4,3 +4,4 @@ pub mod Keys
 pub mod Reading
 pub mod Parts
 pub mod Mapping
+pub mod Laws

@@ -40,3 +40,39 @@ pub(crate) fn record_front(
         _ => behind(alloc, front, cluster, b"/"),
     }
 }
+
+fn push_record_ranges(
+    alloc: Global,
+    ranges: &mut Items<Range>,
+    hop: Hop,
+    cluster: &[u8],
+    kinds: &[Kind],
+) -> Result<(), Memory>
+    ensures { OnOk result (ranges.new ≡ ranges.old ++ map (record_range hop cluster.now) kinds.now) }
+{
+    for kind in kinds {
+        let front = record_front(alloc, hop, *kind, cluster)?;
+        ranges.push(Range::Prefix(front))?;
+    }
+    Ok(())
+}
+
+/// What a reader of the cluster follows at a hop.
+///
+/// These are the cluster's config, what stands below its marks, its records of the four kinds and,
+/// in a cache, its cut. In an exporter's store the keys of identities and addresses do not say the
+/// cluster, and all of them are followed.
+#[tactic(auto, unfolding(crate::specs::Paths::ranges_of))]
+pub fn ranges(alloc: Global, cluster: &ClusterName, hop: Hop) -> Result<Ranges, Memory>
+    ensures { IfOk result (λ r. r.items ≡ ranges_of cluster.now hop) }
+{
+    let cluster = cluster.as_bytes();
+    let mut items = Items::new(alloc);
+    items.push(Range::One(behind(alloc, Front::Configs, cluster, b"")?))?;
+    items.push(Range::Prefix(behind(alloc, Front::Marks, cluster, b"/")?))?;
+    push_record_ranges(alloc, &mut items, hop, cluster, &KINDS)?;
+    if hop == Hop::Cache {
+        items.push(Range::One(behind(alloc, Front::Cuts, cluster, b"")?))?;
+    }
+    Ok(Ranges { items })
+}
