@@ -6,7 +6,6 @@ use Rattle.std.specs.Prelude.{◌≡◌, ◌<◌, ◌≤◌, ◌^◌, IsTrue, �
 use Rattle.std.specs.FinMap.{get, contains_key, insert, remove, empty, keys}
 use Rattle.std.specs.List.{list_any, list_all}
 use Rattle.mesh_base.specs.Order.{same_bytes}
-use Rattle.mesh_text.specs.Names.{is_cluster_name}
 use Rattle.mesh_text.specs.declared.kind.Kind.{Kind}
 use Rattle.mesh_text.specs.declared.kind.Kind.TheVariants.{Nodes, Services, Identities, Addresses}
 use Rattle.store_api.specs.History.{Pairing, in_ranges}
@@ -151,5 +150,4 @@ pub record IsExport (s : Export) : Type 0 where
   pub stopped : s.lease ≡ None → s.queue ≡ []
   pub number : s.number < 2 ^ 32
   pub seconds : 1 ≤ s.seconds
-  pub cluster : IsTrue (is_cluster_name s.cluster)
   pub records : (key : List ℕ) → IsTrue (contains_key s.declared key) → IsTrue (in_ranges (record_ranges s.cluster State) key)

@@ -9,17 +9,18 @@ ghost use Rattle.store_api.specs.Meaning.{Keeps, Makes};
 ghost use Rattle.exporter.specs.State.{after_declare, after_item, after_items, after_start, after_stop, after_withdraw, is_record, is_synced, new_export, next_ops, op_of, record_op, turns, waiting};
 ghost use Rattle.exporter.specs.Calls.{KeepsLease, Refuses, RefusesKeep, RefusesStart, StopsAt, Writes, WritesAll};
 
+use crate::declared::Declared;
 use crate::fault::ExportFault;
 use crate::item::Item;
 use crate::queue::Queue;
-use crate::texts::{config_key, config_value, mark_key, place};
+use crate::texts::{config_key, config_value, place};
 use key_paths::Hop;
 use mesh_base::{Bytes, Memory};
 use mesh_text::ClusterName;
 use std::alloc::Global;
-use std::collections::BTreeMap;
 use std::marker::Model;
 use store_api::{Op, Store, StoreFault};
+use synced_marks::mark_key;
 
 /// How far an export came.
 #[derive(Clone, Copy, Debug, PartialEq, Eq)]
@@ -39,8 +40,7 @@ pub struct Exporter {
     number: u32,
     /// The time to live of its leases.
     seconds: u64,
-    /// The declared values, by key.
-    declared: BTreeMap<Bytes, Bytes>,
+    declared: Declared,
     queue: Queue,
     /// The lease of the last start, while the exporter runs.
     lease: Option<u64>,
@@ -77,7 +77,7 @@ impl Exporter {
             cluster,
             number,
             seconds,
-            declared: BTreeMap::new(alloc),
+            declared: Declared::new(alloc),
             queue: Queue::new(alloc),
             lease: None,
             marked: [false; 4],
@@ -270,8 +270,8 @@ impl Exporter {
             Item::Record { key } => self.record_op(key),
             Item::Mark(kind) => {
                 let key = mark_key(self.alloc, &self.cluster, Hop::State, *kind)?;
-                let value = Bytes::from_slice(self.alloc, b"1")?;
-                Ok(self.put(key, value))
+                let value = Bytes::from_slice(self.alloc, "1".as_bytes())?;
+                Ok(self.put(Bytes::from_vec(key), value))
             }
         }
     }
@@ -307,13 +307,15 @@ impl Exporter {
         ensures refused { OnErr result (self.new ≡ self.old) }
     {
         let added = self.wait(&key)?;
-        if self.declared.insert(key, value).is_err() {
-            if added {
-                self.queue.drop_last();
+        match self.declared.set(key, value) {
+            Ok(()) => Ok(()),
+            Err(Memory) => {
+                if added {
+                    self.queue.drop_last();
+                }
+                Err(Memory)
             }
-            return Err(Memory);
         }
-        Ok(())
     }
 
     // Withdraws the record of these bytes.
@@ -321,7 +323,7 @@ impl Exporter {
         ensures withdrawn { OnOk result (self.new ≡ after_withdraw key.now self.old) }
         ensures refused { OnErr result (self.new ≡ self.old) }
     {
-        if self.declared.contains_key(key) {
+        if self.declared.has(key) {
             let _ = self.wait(key)?;
             self.declared.remove(key);
         }

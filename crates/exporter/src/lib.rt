@@ -10,6 +10,7 @@
 //! It knows nothing of links, readers or caches.
 #![tactic(auto)]
 
+mod declared;
 mod exporter;
 mod fault;
 mod item;

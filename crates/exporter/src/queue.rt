@@ -1,23 +1,16 @@
 // What waits to be written.
 ghost use Rattle.std.specs.Prelude.{◌≡◌, ◌-◌, ◌++◌, ◌∷◌, [], ℕ, List, length, take, drop, not, is_some, nat_lt, false, IfOk, IfSome, OnOk, OnErr};
 ghost use Rattle.std.specs.List.{list_any};
-ghost use Rattle.std.specs.BTreeMap.{keys};
+ghost use Rattle.std.specs.FinMap.{keys};
 ghost use Rattle.exporter.specs.State.{everything, is_record, with_key};
 
+use crate::declared::Declared;
 use crate::item::Item;
 use mesh_base::{Bytes, Memory};
 use mesh_text::Kind;
 use std::alloc::Global;
-use std::collections::{BTreeMap, BTreeSet, VecDeque};
+use std::collections::{BTreeSet, VecDeque};
 use std::marker::Model;
-
-/// The kinds in their order.
-const KINDS: [Kind; 4] = [
-    Kind::Nodes,
-    Kind::Services,
-    Kind::Identities,
-    Kind::Addresses,
-];
 
 /// The items that wait, in order; the key of a record stands among them once.
 #[derive(Drop)]
@@ -93,8 +86,13 @@ impl Queue {
     pub fn drop_last(&mut self)
         ensures { self.new ≡ take (length self.old - 1) self.old }
     {
-        if let Some(Item::Record { key }) = self.items.pop_back() {
-            self.keys.remove(&key);
+        match self.items.pop_back() {
+            Some(Item::Record { key }) => {
+                self.keys.remove(&key);
+            }
+            Some(Item::Config) => {}
+            Some(Item::Mark(_)) => {}
+            None => {}
         }
     }
 
@@ -115,17 +113,16 @@ impl Queue {
     }
 
     /// The queue of everything, where these records are declared.
-    pub fn everything(alloc: Global, declared: &BTreeMap<Bytes, Bytes>) -> Result<Queue, Memory>
+    pub fn everything(alloc: Global, declared: &Declared) -> Result<Queue, Memory>
         ensures { IfOk result (λ queue. queue ≡ everything (keys declared.now)) }
     {
         let mut queue = Queue::new(alloc);
         queue.add_other(Item::Config)?;
-        for key in declared.keys() {
-            let _ = queue.add(key)?;
-        }
-        for kind in KINDS {
-            queue.add_other(Item::Mark(kind))?;
-        }
+        declared.add_keys(&mut queue)?;
+        queue.add_other(Item::Mark(Kind::Nodes))?;
+        queue.add_other(Item::Mark(Kind::Services))?;
+        queue.add_other(Item::Mark(Kind::Identities))?;
+        queue.add_other(Item::Mark(Kind::Addresses))?;
         Ok(queue)
     }
 }

@@ -3,7 +3,6 @@ ghost use Rattle.std.specs.Prelude.{◌≡◌, ◌^◌, ◌<◌, IfOk, length};
 ghost use Rattle.key_paths.specs.Paths as paths;
 ghost use Rattle.exporter.specs.State.{config_value, place};
 
-use key_paths::{Hop, Key, write_key};
 use mesh_base::{Bytes, Memory};
 use mesh_records::{ClusterConfig, write_config};
 use mesh_text::{ClusterName, Kind};
@@ -24,25 +23,13 @@ pub(crate) fn place(kind: Kind) -> usize
 }
 
 /// The key of the cluster's config.
+#[tactic(auto, unfolding(key_paths::specs::Beginnings::beginning))]
 pub(crate) fn config_key(alloc: Global, cluster: &ClusterName) -> Result<Bytes, Memory>
     ensures { IfOk result (λ key. key ≡ paths.config_key cluster.now) }
 {
-    let key = Key::Config {
-        cluster: cluster.clone()?,
-    };
-    Ok(Bytes::from_vec(write_key(alloc, &key)?))
-}
-
-/// The key of the cluster's mark for a kind at a hop.
-pub(crate) fn mark_key(alloc: Global, cluster: &ClusterName, hop: Hop, kind: Kind) -> Result<Bytes, Memory>
-    ensures { IfOk result (λ key. key ≡ paths.mark_key cluster.now hop kind) }
-{
-    let key = Key::Synced {
-        cluster: cluster.clone()?,
-        hop,
-        kind,
-    };
-    Ok(Bytes::from_vec(write_key(alloc, &key)?))
+    let mut key = Bytes::from_slice(alloc, "cilium/cluster-config/".as_bytes())?;
+    key.extend_from_slice(cluster.as_bytes())?;
+    Ok(key)
 }
 
 /// The config that a cluster with this number exports.
