@@ -1,0 +1,3 @@
+pub mod RecordKinds
+pub mod Checks
+pub mod Reserved

@@ -3,3 +3,4 @@ pub mod Faults
 pub mod Reading
 pub mod Judging
 pub mod Configs
+pub mod Laws

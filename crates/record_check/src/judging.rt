@@ -1,7 +1,7 @@
 // What was said, against the cluster that it came from and its key.
-ghost use Rattle.std.specs.Prelude.{◌≡◌, ◌==◌, ◌∷◌, [], not, bytes_eq, nat_eq, Some};
+ghost use Rattle.std.specs.Prelude.{◌≡◌, ◌==◌, ◌∷◌, [], not, bytes_eq, nat_eq, Some, IfSome};
 ghost use Rattle.record_check.specs.Limits.{cluster_part, cluster_owning};
-ghost use Rattle.record_check.specs.Faults.{fault_if, first_fault, differ};
+ghost use Rattle.record_check.specs.Faults.{fault_if, first_fault, differ, IsNamed};
 ghost use Rattle.record_check.specs.Reading.{IsOfKind};
 ghost use Rattle.record_check.specs.Judging.{judgement, same_ip};
 
@@ -18,7 +18,8 @@ fn same_ip(a: Ip, b: Ip) -> bool
 }
 
 fn node_fault(cluster: &ClusterName, id: u32, name: &PartName, node: &Node) -> Option<Fault>
-    ensures { result ≡ first_fault (fault_if (not (bytes_eq node.now.cluster cluster.now)) Fault.Cluster ∷ fault_if (not (nat_eq node.now.cluster_id id)) Fault.ClusterId ∷ fault_if (not (bytes_eq node.now.name name.now)) Fault.Name ∷ []) }
+    ensures fault { result ≡ first_fault (fault_if (not (bytes_eq node.now.cluster cluster.now)) Fault.Cluster ∷ fault_if (not (nat_eq node.now.cluster_id id)) Fault.ClusterId ∷ fault_if (not (bytes_eq node.now.name name.now)) Fault.Name ∷ []) }
+    ensures named { IfSome result IsNamed }
 {
     if node.cluster.as_bytes() != cluster.as_bytes() {
         return Some(Fault::Cluster);
@@ -39,7 +40,8 @@ fn service_fault(
     name: &PartName,
     service: &ServiceRecord,
 ) -> Option<Fault>
-    ensures { result ≡ first_fault (fault_if (not (bytes_eq service.now.cluster cluster.now)) Fault.Cluster ∷ fault_if (not (nat_eq service.now.cluster_id id)) Fault.ClusterId ∷ fault_if (not (bytes_eq service.now.namespace namespace.now)) Fault.Namespace ∷ fault_if (not (bytes_eq service.now.name name.now)) Fault.Name ∷ []) }
+    ensures fault { result ≡ first_fault (fault_if (not (bytes_eq service.now.cluster cluster.now)) Fault.Cluster ∷ fault_if (not (nat_eq service.now.cluster_id id)) Fault.ClusterId ∷ fault_if (not (bytes_eq service.now.namespace namespace.now)) Fault.Namespace ∷ fault_if (not (bytes_eq service.now.name name.now)) Fault.Name ∷ []) }
+    ensures named { IfSome result IsNamed }
 {
     if service.cluster.as_bytes() != cluster.as_bytes() {
         return Some(Fault::Cluster);
@@ -57,7 +59,8 @@ fn service_fault(
 }
 
 fn identity_fault(id: u32, limit: Limit, number: u32) -> Option<Fault>
-    ensures { result ≡ first_fault (fault_if (not (nat_eq (cluster_part limit number) id)) Fault.ClusterId ∷ []) }
+    ensures fault { result ≡ first_fault (fault_if (not (nat_eq (cluster_part limit number) id)) Fault.ClusterId ∷ []) }
+    ensures named { IfSome result IsNamed }
 {
     if limit.cluster_part(number) != id {
         return Some(Fault::ClusterId);
@@ -66,7 +69,8 @@ fn identity_fault(id: u32, limit: Limit, number: u32) -> Option<Fault>
 }
 
 fn address_fault(id: u32, limit: Limit, ip: Ip, address: &AddressRecord) -> Option<Fault>
-    ensures { result ≡ first_fault (fault_if (differ nat_eq (cluster_owning limit address.now.id) (Some id)) Fault.ClusterId ∷ fault_if (not (same_ip address.now.ip ip)) Fault.AddressKey ∷ []) }
+    ensures fault { result ≡ first_fault (fault_if (differ nat_eq (cluster_owning limit address.now.id) (Some id)) Fault.ClusterId ∷ fault_if (not (same_ip address.now.ip ip)) Fault.AddressKey ∷ []) }
+    ensures named { IfSome result IsNamed }
 {
     if let Some(number) = limit.cluster_owning(address.id)
         && number != id
@@ -95,13 +99,16 @@ pub fn judge(
     value: &Record,
 ) -> Option<Fault>
     requires { IsOfKind key.now value.now }
-    ensures { result ≡ judgement cluster.now id limit key.now value.now }
+    ensures fault { result ≡ judgement cluster.now id limit key.now value.now }
+    ensures named { IfSome result IsNamed }
 {
     match (key, value) {
         (Key::Node { node, .. }, Record::Node(found)) => node_fault(cluster, id, node, found),
         (
             Key::Service {
-                namespace, name, ..
+                namespace,
+                name,
+                ..
             },
             Record::Service(found),
         ) => service_fault(cluster, id, namespace, name, found),

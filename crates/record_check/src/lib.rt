@@ -7,12 +7,20 @@
 //! It knows nothing of stores, readers or tables.
 #![tactic(auto)]
 
+mod checking;
+mod configs;
 mod fault;
 mod judging;
+mod laws;
 mod limit;
 mod reading;
+#[cfg(test)]
+mod tests;
 
+pub use checking::check;
+pub use configs::check_config;
 pub use fault::Fault;
 pub use judging::judge;
+pub use laws::{checks_by_judging, reserved_fit_every_cluster};
 pub use limit::Limit;
 pub use reading::read_pair;

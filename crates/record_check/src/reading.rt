@@ -1,27 +1,18 @@
 // A pair by its bytes alone.
-ghost use Rattle.std.specs.Prelude.{◌≡◌, IfOk, IfErr, Ok, Err};
+ghost use Rattle.std.specs.Prelude.{◌≡◌, IfOk, IfErr, Ok, Err, Some};
 ghost use Rattle.key_paths.specs.Keys.{kind_of};
-ghost use Rattle.key_paths.specs.Reading.{key_of};
 ghost use Rattle.mesh_records.specs.Record.{record_of};
 ghost use Rattle.mesh_records.specs.declared.fault.ReadFault.TheVariants as read_fault;
 ghost use Rattle.key_paths.specs.declared.fault.KeyFault.TheVariants as key_fault;
 ghost use Rattle.record_check.specs.Faults.{IsNamed, size_row};
-ghost use Rattle.record_check.specs.Reading.{record_key_of, reading_of, with_kind, IsOfKind};
+ghost use Rattle.record_check.specs.Reading.{record_key_of, reading_of, kind_of_record, IsOfKind};
 
 use crate::fault::Fault;
 use crate::limit::LONGEST_VALUE;
-use key_paths::{Key, KeyFault, Kind};
+use key_paths::{Key, KeyFault, Kind, read_key};
 use mesh_base::Memory;
 use mesh_records::{ReadFault, Record, read_record};
 use std::alloc::Global;
-
-ghost use Rattle.key_paths.specs.Reading.{Gives};
-
-fn read_key(_alloc: Global, bytes: &[u8]) -> Result<Key, KeyFault>
-    ensures { Gives result (key_of bytes.now) }
-{
-    Err(KeyFault::Memory)
-}
 
 /// The kind of record that a key is of, if it is one of a record.
 fn kind_of(key: &Key) -> Option<Kind>
@@ -40,6 +31,7 @@ fn kind_of(key: &Key) -> Option<Kind>
 #[tactic(auto, unfolding(crate::specs::Reading::record_key_of))]
 fn read_record_key(alloc: Global, bytes: &[u8]) -> Result<Result<(Key, Kind), KeyFault>, Memory>
     ensures said { IfOk result (λ answer. answer ≡ record_key_of bytes.now) }
+    ensures kind { IfOk result (λ answer. IfOk answer (λ pair. kind_of pair.0 ≡ Some pair.1)) }
     ensures named { IfOk result (λ answer. IfErr answer (λ why. why ≡ key_fault.Memory → ⊥)) }
 {
     match read_key(alloc, bytes) {
@@ -65,8 +57,10 @@ pub(crate) fn size_fault(value: &[u8]) -> Option<Fault>
 }
 
 /// The record of the kind that a value says.
+#[tactic(auto, using(crate::proofs::RecordKinds::kind_of_read))]
 fn read_value(alloc: Global, kind: Kind, value: &[u8]) -> Result<Result<Record, ReadFault>, Memory>
     ensures said { IfOk result (λ answer. answer ≡ record_of kind value.now) }
+    ensures kind { IfOk result (λ answer. IfOk answer (λ found. kind_of_record found ≡ kind)) }
     ensures named { IfOk result (λ answer. IfErr answer (λ why. why ≡ read_fault.Memory → ⊥)) }
 {
     match read_record(alloc, kind, value) {
