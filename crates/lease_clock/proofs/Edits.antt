@@ -1,12 +1,12 @@
 -- What an edit of the kept leases does to the table that they stand for.
-use Rattle.std.proofs.Common.{◌≡◌, ℕ, ◌+◌, ◌≤◌, ◌==◌, List, [], ◌∷◌, ◌++◌, map, get_or, set, take, drop, suc, Some, true, ap, ap₂, sym, ◌∙◌, subst, arith}
+use Rattle.std.proofs.Common.{◌≡◌, ℕ, ◌+◌, ◌≤◌, ◌==◌, List, [], ◌∷◌, ◌++◌, map, filter, get_or, set, take, drop, suc, Some, true, false, not, cond, refl, ap, ap₂, sym, ◌∙◌, subst, arith}
 use Rattle.std.specs.List.{remove}
 use Rattle.std.proofs.lemmas.List.{map-set, map-append, take-map, drop-map, get_or-map, length-map, map_push}
 use Rattle.std.proofs.lemmas.Bool.Decides.{nat_tests}
-use Rattle.store_api.specs.Leases.{Lease, LeaseTable, is_live_lease, deadline_at, deadline_of, kept_alive, renewed, revoked}
+use Rattle.store_api.specs.Leases.{Lease, LeaseTable, is_live_lease, deadline_at, deadline_of, is_due, kept_alive, renewed, revoked}
 use Rattle.lease_clock.specs.declared.leases.LiveLease.{LiveLease}
 use Rattle.lease_clock.specs.Kept.{IsKept, IsPlace, lease_of, leases_of}
-use Rattle.lease_clock.proofs.Numbers.{moved, gone, found, deadline_moved, numbered_set, numbered_remove, numbered_push, before_set, before_remove, before_push, before_earlier}
+use Rattle.lease_clock.proofs.Numbers.{moved, gone, found, deadline_moved, numbered_set, numbered_remove, numbered_push, before_set, before_remove, before_push, before_earlier, numbered_filter, before_filter}
 
 -- a removal is one of the table's lease too
 pub map-remove : (items : List LiveLease) (i : ℕ) → leases_of (remove items i) ≡ remove (leases_of items) i
@@ -67,3 +67,17 @@ module _ (items : List LiveLease) (now last soonest n i : ℕ) (table : LeaseTab
       numbered = numbered_set last 0 i (leases_of items) (lease_of written) (lease_of r) kept.numbered (sym (ap (λ (lease : Lease). lease.number) read_view));
       before = before_set sooner i (leases_of items) (lease_of written) (before_earlier sooner soonest (leases_of items) le kept.before) within;
     })
+
+-- the kept leases that are left are those of the table
+pub left : (now : ℕ) (items : List LiveLease) → leases_of (filter (λ (kept : LiveLease). not (is_due now (lease_of kept))) items) ≡ filter (λ (lease : Lease). not (is_due now lease)) (leases_of items)
+left now [] = refl
+left now (x ∷ xs) =
+    elim (not (is_due now (lease_of x))) as (λ b. leases_of (cond b (x ∷ filter (λ (kept : LiveLease). not (is_due now (lease_of kept))) xs) (filter (λ (kept : LiveLease). not (is_due now (lease_of kept))) xs))
+    ≡ cond b (lease_of x ∷ filter (λ (lease : Lease). not (is_due now lease)) (leases_of xs)) (filter (λ (lease : Lease). not (is_due now lease)) (leases_of xs)))
+    [ true ↦ ap (λ (l : List Lease). lease_of x ∷ l) (left now xs) | false ↦ left now xs ]
+
+pub kept_left : (now last soonest : ℕ) (items : List LiveLease) → IsKept (leases_of items) last soonest → IsKept (filter (λ (lease : Lease). not (is_due now lease)) (leases_of items)) last soonest
+kept_left now last soonest items kept = record {
+  numbered = numbered_filter (λ (lease : Lease). not (is_due now lease)) last 0 (leases_of items) kept.numbered;
+  before = before_filter (λ (lease : Lease). not (is_due now lease)) soonest (leases_of items) kept.before;
+}

@@ -1,4 +1,5 @@
+pub mod CallerLemmas
 mod Edits
 mod Numbers
 mod Places
-mod Ranks
+pub mod Ranks

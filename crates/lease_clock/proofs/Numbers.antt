@@ -138,3 +138,15 @@ before_remove t zero [] h = tt
 before_remove t (suc i) [] h = tt
 before_remove t zero (x ∷ xs) h = h.1
 before_remove t (suc i) (x ∷ xs) h = (h.0, before_remove t i xs h.1)
+
+-- what is left of the leases keeps both
+pub numbered_filter : (p : Lease → Bool) (last low : ℕ) (live : List Lease) → IsNumbered low live last → IsNumbered low (filter p live) last
+numbered_filter p last low [] h = h
+numbered_filter p last low (x ∷ xs) h =
+    elim (p x) as (λ b. IsNumbered low (cond b (x ∷ filter p xs) (filter p xs)) last)
+    [ true ↦ (h.0, numbered_filter p last x.number xs h.1) | false ↦ wider last low x.number (filter p xs) (omega (arith, h.0)) (numbered_filter p last x.number xs h.1) ]
+
+pub before_filter : (p : Lease → Bool) (t : ℕ) (live : List Lease) → IsBefore t live → IsBefore t (filter p live)
+before_filter p t [] h = tt
+before_filter p t (x ∷ xs) h =
+    elim (p x) as (λ b. IsBefore t (cond b (x ∷ filter p xs) (filter p xs))) [ true ↦ (h.0, before_filter p t xs h.1) | false ↦ before_filter p t xs h.1 ]

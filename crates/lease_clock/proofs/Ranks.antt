@@ -1,5 +1,5 @@
 -- The due leases in order of their ranks.
-use Rattle.std.proofs.Common.{◌≡◌, ℕ, ◌<◌, ◌≤◌, List, [], ◌∷◌, map, filter, length, Bool, true, false, cond, ◌||◌, ◌&&◌, T, Option, Some, is_some, IsTrue, refl, ap, sym, ◌∙◌, arith}
+use Rattle.std.proofs.Common.{◌≡◌, ℕ, ◌<◌, ◌≤◌, List, [], ◌∷◌, map, filter, length, not, Bool, true, false, cond, ◌||◌, ◌&&◌, T, Option, Some, is_some, IsTrue, refl, ap, sym, ◌∙◌, arith}
 use Rattle.std.specs.List.{list_any, AllByRecursion}
 use Rattle.std.specs.List.Sorted.{IsStrictlySortedBy}
 use Rattle.std.specs.Ordering.{nat_cmp, eq_by_cmp, is_eq, is_lt}
@@ -11,7 +11,8 @@ use Rattle.std.specs.FinMap.{keys, contains_key-keys, get-from_entries, entries_
 use Rattle.std.specs.FinMap.Entries.{is_sorted, below_all, find}
 use Rattle.std.specs.BTreeSet.{BTreeSet, IsOrdered}
 use Rattle.std.proofs.lemmas.Map.Lookups.{exact_unsigned, exact_pairs, btree_set_from_contains}
-use Rattle.store_api.specs.Leases.{Lease, LeaseTable, is_due, rank, rank_cmp, due_by_rank, due_leases}
+use Rattle.store_api.specs.Leases.{Lease, LeaseTable, is_due, rank, rank_cmp, due_by_rank, due_leases, expired}
+use Rattle.store_api.proofs.CallerLemmas.{keys_rise}
 use Rattle.lease_clock.specs.declared.leases.LiveLease.{LiveLease}
 use Rattle.lease_clock.specs.Kept.{HasRanks, due_ranks, lease_of, leases_of}
 use Rattle.lease_clock.specs.Lapses.{DueInOrder}
@@ -26,35 +27,6 @@ same_rank = eq_by_cmp rank_cmp
 
 itself : (r : ℕ × ℕ) → same_rank r r ≡ true
 itself r = ap is_eq (tied_itself rank_total r)
-
-less_of : (o : Ordering) → T (is_lt o) → o ≡ Less
-less_of Less h = refl
-less_of Equal h = absurd h
-less_of Greater h = absurd h
-
-front : (a b : Bool) → T (a && b) → T a
-front true b h = tt
-front false b h = absurd h
-
-back : (a b : Bool) → T (a && b) → T b
-back true b h = h
-back false b h = absurd h
-
-abbrev Ranked : Type 0
-Ranked = List ((ℕ × ℕ) × Lease)
-
-abbrev ranks_of : Ranked → List (ℕ × ℕ)
-ranks_of es = map (λ (e : (ℕ × ℕ) × Lease). e.0) es
-
--- from a test of order to the order
-all_below : (r : ℕ × ℕ) (es : Ranked) → T (below_all rank_cmp r es) → AllByRecursion (λ (q : ℕ × ℕ). rank_cmp r q ≡ Less) (ranks_of es)
-all_below r [] h = tt
-all_below r (e ∷ es) h = (less_of _ (front (is_lt (rank_cmp r e.0)) _ h), all_below r es (back (is_lt (rank_cmp r e.0)) _ h))
-
-in_order : (es : Ranked) → T (is_sorted rank_cmp es) → IsStrictlySortedBy rank_cmp (ranks_of es)
-unfolding IsStrictlySortedBy
-in_order [] h = tt
-in_order (e ∷ es) h = (all_below e.0 es (front (below_all rank_cmp e.0 es) _ h), in_order es (back (below_all rank_cmp e.0 es) _ h))
 
 some-or : (b : Bool) (lease : Lease) (o : Option Lease) → is_some (cond b (Some lease) o) ≡ (b || is_some o)
 some-or true lease o = refl
@@ -74,12 +46,12 @@ has_keys table q =
 
 -- the law of every table
 pub in_order_all : DueInOrder
-in_order_all table = record { rises = in_order (finite.entries (due_by_rank table)) (entries_sorted (due_by_rank table)); members = has_keys table }
+in_order_all table = record { rises = keys_rise rank_cmp (due_by_rank table); members = has_keys table }
 
 -- a set of these ranks has them in the order of the map
 pub keys_are : (table : LeaseTable) (ranks : BTreeSet (ℕ × ℕ)) → IsOrdered rank_cmp ranks → HasRanks ranks (due_ranks table.now table.live) → ranks.keys ≡ keys (due_by_rank table)
 keys_are table ranks ordered has =
-    btree_set_from_contains rank_total ranks (record { keys = keys (due_by_rank table) }) ordered (in_order (finite.entries (due_by_rank table)) (entries_sorted (due_by_rank table)))
+    btree_set_from_contains rank_total ranks (record { keys = keys (due_by_rank table) }) ordered (keys_rise rank_cmp (due_by_rank table))
     (λ q. has q ∙ sym (has_keys table q)) (exact_pairs nat_cmp nat_cmp exact_unsigned exact_unsigned)
 
 not_empty : (p : ℕ × ℕ → Bool) (rs : List (ℕ × ℕ)) → list_any p rs ≡ true → 0 < length rs
@@ -138,3 +110,19 @@ pub not_due : (now : ℕ) (x : LiveLease) (rest : List LiveLease) (q : ℕ × �
 not_due now x rest q lt =
     let later : is_due now (lease_of x) ≡ false = grind (arith, Rattle.std.proofs.lemmas.Bool.Decides.nat_tests) in
     rw later refl
+
+-- where no lease is due, none ends
+none_ends : (now : ℕ) (live : List Lease) → list_any (is_due now) live ≡ false → filter (λ (lease : Lease). not (is_due now lease)) live ≡ live
+none_ends now [] h = refl
+none_ends now (x ∷ xs) h =
+    elim (is_due now x) as (λ b. (b || list_any (is_due now) xs) ≡ false → cond (not b) (x ∷ filter (λ (lease : Lease). not (is_due now lease)) xs) (filter (λ (lease : Lease). not (is_due now lease)) xs) ≡ x ∷ xs)
+    [ true ↦ λ t. cc | false ↦ λ t. ap (λ (l : List Lease). x ∷ l) (none_ends now xs t) ] h
+
+pub expired_none : (table : LeaseTable) → due_leases table ≡ [] → expired table ≡ table
+expired_none table none =
+    ap (λ (live : List Lease). let left : LeaseTable = record table { live = live } in left)
+    (none_ends table.now table.live (none_due_test (list_any (is_due table.now) table.live) (λ some. (is_any_due table (list_any (is_due table.now) table.live) refl).0 some)))
+  where
+    none_due_test : (b : Bool) → (b ≡ true → 0 < length (due_leases table)) → b ≡ false
+    none_due_test true some = absurd (omega (arith, some refl, ap length none))
+    none_due_test false some = refl

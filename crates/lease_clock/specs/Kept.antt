@@ -3,7 +3,7 @@ use Rattle.std.specs.Prelude.{◌≡◌, ℕ, ◌<◌, ◌≤◌, false, List, m
 use Rattle.std.specs.List.{AllByRecursion, list_any}
 use Rattle.std.specs.Ordering.{eq_by_cmp}
 use Rattle.std.specs.BTreeSet.{BTreeSet, contains}
-use Rattle.store_api.specs.Leases.{Lease, is_live_lease, is_due, rank, rank_cmp}
+use Rattle.store_api.specs.Leases.{Lease, LeaseTable, is_live_lease, is_due, rank, rank_cmp}
 use Rattle.lease_clock.specs.declared.leases.LiveLease.{LiveLease}
 use Rattle.lease_clock.specs.Lapses.{IsNumbered}
 
@@ -28,6 +28,10 @@ pub record IsKept (live : List Lease) (last soonest : ℕ) : Type 0 where
 abbrev pub IsPlace : List Lease → ℕ → Option ℕ → Type 0
 IsPlace live number None = is_live_lease live number ≡ false
 IsPlace live number (Some at) = (at < length live) × ((d : Lease) → let lease = slice_index_or live at d in lease.number ≡ number)
+
+-- the table at this time
+abbrev pub at_time : ℕ → LeaseTable → LeaseTable
+at_time time table = record table { now = time }
 
 -- the ranks of the leases that are due at the time
 abbrev pub due_ranks : ℕ → List Lease → List (ℕ × ℕ)

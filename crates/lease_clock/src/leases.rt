@@ -1,7 +1,7 @@
 ghost use Rattle.std.specs.Prelude.{◌≡◌, ◌≤◌, ◌<◌, ◌+◌, ◌↔◌, ℕ, [], false, length, map, is_some, IsTrue, OnOk, OnErr, IfOk, IfSome, IfNone, OnSome, Some};
 ghost use Rattle.std.specs.List.{list_any};
-ghost use Rattle.store_api.specs.Leases.{is_live_lease, advanced, deadline_of, due_leases, granted, is_due, no_leases, renewed, revoked};
-ghost use Rattle.lease_clock.specs.Kept.{HasRanks, IsBefore, IsPlace, due_ranks, leases_of};
+ghost use Rattle.store_api.specs.Leases.{is_live_lease, advanced, deadline_of, due_leases, expired, granted, is_due, no_leases, renewed, revoked};
+ghost use Rattle.lease_clock.specs.Kept.{HasRanks, IsBefore, IsPlace, at_time, due_ranks, leases_of};
 ghost use Rattle.lease_clock.specs.Lapses.{IsNumbered};
 
 use mesh_base::Memory;
@@ -138,7 +138,17 @@ impl Leases {
     pub fn has_due(&self) -> bool
         ensures { IsTrue result ↔ (0 < length (due_leases self.now)) }
     {
-        self.soonest <= self.clock && any_due(&self.live, self.clock)
+        self.has_due_at(self.clock)
+    }
+
+    /// Whether a lease will be due so many seconds from now. Takes no memory.
+    ///
+    /// Constant where that is before the earliest deadline that was there when the leases were last
+    /// walked, and otherwise one walk at most.
+    pub fn has_due_after(&self, seconds: u64) -> bool
+        ensures { IsTrue result ↔ (0 < length (due_leases (advanced seconds self.now))) }
+    {
+        self.has_due_at(self.clock.saturating_add(seconds))
     }
 
     /// The live leases whose deadline is not after the time, by deadline and then number.
@@ -147,8 +157,22 @@ impl Leases {
     pub fn due(&self, alloc: Global) -> Result<Vec<u64>, Memory>
         ensures { IfOk result (λ due. due.items ≡ due_leases self.now) }
     {
-        let ranks = due_ranks(alloc, &self.live, self.clock)?;
-        Ok(ranks.iter().map(|rank| rank.1).collect(alloc)?)
+        self.due_at(alloc, self.clock)
+    }
+
+    /// The leases that will be due so many seconds from now, by deadline and then number.
+    pub fn due_after(&self, alloc: Global, seconds: u64) -> Result<Vec<u64>, Memory>
+        ensures { IfOk result (λ due. due.items ≡ due_leases (advanced seconds self.now)) }
+    {
+        self.due_at(alloc, self.clock.saturating_add(seconds))
+    }
+
+    /// Ends every lease that is due. One walk over the live leases; takes no memory.
+    pub fn expire(&mut self)
+        ensures { self.new ≡ expired self.old }
+    {
+        let now = self.clock;
+        self.live.retain(|lease| lease.deadline > now);
     }
 
     /// Ends the lease, and answers whether it was live (etcd: LeaseRevoke).
@@ -165,6 +189,21 @@ impl Leases {
             }
             None => false,
         }
+    }
+
+    // Whether a lease is due at this time.
+    fn has_due_at(&self, time: u64) -> bool
+        ensures { IsTrue result ↔ (0 < length (due_leases (at_time time self.now))) }
+    {
+        self.soonest <= time && any_due(&self.live, time)
+    }
+
+    // The leases that are due at this time, by deadline and then number.
+    fn due_at(&self, alloc: Global, time: u64) -> Result<Vec<u64>, Memory>
+        ensures { IfOk result (λ due. due.items ≡ due_leases (at_time time self.now)) }
+    {
+        let ranks = due_ranks(alloc, &self.live, time)?;
+        Ok(ranks.iter().map(|rank| rank.1).collect(alloc)?)
     }
 
     // The place of the lease among the live ones.

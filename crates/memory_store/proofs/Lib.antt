@@ -1,5 +1,8 @@
-pub mod Calls
-pub mod Forms
-pub mod Fronts
-pub mod Logs
-pub mod Sets
+mod Calls
+mod Expiry
+mod Forms
+mod Fronts
+mod Indexes
+mod Logs
+mod Sets
+mod Watched

@@ -18,6 +18,7 @@ use Rattle.store_api.specs.declared.change.Change.TheVariants as change
 use Rattle.store_api.specs.declared.change.Range.{Range}
 use Rattle.store_api.specs.declared.change.Pair.{Pair}
 use Rattle.store_api.specs.History.{History, Pairing, revision, changes_at, live_at, map_at, in_ranges, entry_of, listing_at, after_all, changed_map, after_change, after_changes}
+use Rattle.store_api.proofs.CallerLemmas.{get-map_at}
 use Rattle.memory_store.specs.Kept.{IsListed, HasLive}
 
 -- the keys of the entries whose keys pass
@@ -46,20 +47,6 @@ sorted_of : (es : List (List ℕ × List ℕ)) → IsStrictlySortedBy (slice_cmp
 unfolding IsStrictlySortedBy
 sorted_of [] h = tt
 sorted_of (e ∷ es) h = and_T (below_all (slice_cmp nat_cmp) e.0 es) (is_sorted (slice_cmp nat_cmp) es) (below_of e.0 es h.0) (sorted_of es h.1)
-
--- what a finite map has at a key after changes
-get-changed : (m : Pairing) (c : Change) (k : List ℕ) → finite.get (changed_map m c) k ≡ after_change k (finite.get m k) c
-get-changed m (change.Put key value lease) k = get-insert nat_list_cmp_total m key value k ∙ ap (λ (b : Bool). cond b (Some value) (finite.get m k)) ((eq_by_cmp_equiv nat_list_cmp_total).symm k key)
-get-changed m (change.Delete key) k = get-remove nat_list_cmp_total m key k ∙ ap (λ (b : Bool). cond b None (finite.get m k)) ((eq_by_cmp_equiv nat_list_cmp_total).symm k key)
-
-get-after_all : (m : Pairing) (changes : List Change) (k : List ℕ) → finite.get (after_all m changes) k ≡ after_changes k (finite.get m k) changes
-get-after_all m [] k = refl
-get-after_all m (c ∷ changes) k = get-after_all (changed_map m c) changes k ∙ ap (λ (o : Option (List ℕ)). after_changes k o changes) (get-changed m c k)
-
--- the two readings of what is live
-pub get-map_at : (h : History) (r : ℕ) (k : List ℕ) → finite.get (map_at h r) k ≡ live_at h r k
-get-map_at h zero k = get-empty (slice_cmp nat_cmp) k
-get-map_at h (suc r) k = get-after_all (map_at h r) (changes_at h (suc r)) k ∙ ap (λ (o : Option (List ℕ)). after_changes k o (changes_at h (suc r))) (get-map_at h r k)
 
 find_is : (q : List ℕ) (es : List (List ℕ × List ℕ)) → find (slice_cmp nat_cmp) q es ≡ lookup (is_at (slice_cmp nat_cmp q)) es
 find_is q [] = refl

@@ -1,18 +1,15 @@
 -- What every history of a store is like.
--- Source: etcd's API, KV service (Txn: a key is changed at most once; a revision is of a change).
+-- Source: etcd's API, KV service (Txn: a key is changed at most once; a revision is of a change) and
+-- Lease service (an expiry deletes live keys).
 use Rattle.std.specs.Prelude.{◌≡◌, ℕ, ◌+◌, ◌<◌, ◌≤◌, List, map, length, All, IsTrue, is_some}
 use Rattle.std.specs.List.{IsDistinct}
-use Rattle.std.specs.FinMap.{get}
 use Rattle.mesh_base.specs.Order.{same_bytes}
+use Rattle.store_api.specs.Attached.{all_lapsed}
 use Rattle.store_api.specs.Followed.{changed_key}
-use Rattle.store_api.specs.History.{History, Pairs, revision, changes_at, live_at, map_at, key_of, committed}
+use Rattle.store_api.specs.History.{History, Pairs, revision, changes_at, live_at, key_of, committed}
 use Rattle.store_api.specs.declared.change.Change.{Change}
 use Rattle.store_api.specs.declared.change.Change.TheVariants as change
 use Rattle.store_api.specs.declared.change.Op.{Op}
-
--- the two readings of what is live agree at every key
-abbrev pub ReadingsAgree : Type 0
-ReadingsAgree = (history : History) (r : ℕ) (k : List ℕ) → get (map_at history r) k ≡ live_at history r k
 
 -- a deletion is of a live key
 abbrev pub IsFit : Pairs → Change → Type 0
@@ -32,3 +29,7 @@ IsFormed history = (r : ℕ) → 1 ≤ r → r < revision history → IsRevision
 -- a transaction keeps that
 abbrev pub CommitsKeepForm : Type 0
 CommitsKeepForm = (history : History) (ops : List Op) → IsFormed history → IsDistinct same_bytes (map key_of ops) → IsFormed (committed history ops)
+
+-- and so does a lapse of leases
+abbrev pub LapsesKeepForm : Type 0
+LapsesKeepForm = (history : History) (leases : List ℕ) → IsFormed history → IsFormed (all_lapsed history leases)

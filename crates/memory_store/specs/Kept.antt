@@ -5,31 +5,54 @@ use Rattle.std.specs.Cmp.Lexicographic.{slice_cmp}
 use Rattle.std.specs.List.Sorted.{IsStrictlySortedBy}
 use Rattle.std.specs.Map.{lookup, keys_of}
 use Rattle.std.specs.BTreeMap.{BTreeMap, get, is_at}
-use Rattle.store_api.specs.History.{History, Pairs, revision, live_at, in_range, in_ranges, entry_of}
+use Rattle.store_api.specs.Attached.{lease_after_all, lease_of}
+use Rattle.store_api.specs.Contents.{Contents}
+use Rattle.store_api.specs.History.{History, Pairs, revision, live_at, after_changes, in_range, in_ranges, entry_of}
+use Rattle.store_api.specs.Leases.{LeaseTable}
+use Rattle.store_api.specs.declared.change.Change.{Change}
 use Rattle.store_api.specs.declared.change.Pair.{Pair}
 use Rattle.store_api.specs.declared.change.Range.{Range}
-use Rattle.store_api.specs.declared.change.Revision.{Revision}
+use Rattle.memory_store.specs.declared.live.Current.{Current}
+use Rattle.memory_store.specs.declared.live.Made.{Made}
+use Rattle.memory_store.specs.Entries.{Entry, contents_of}
 use Rattle.memory_store.specs.Formed.{IsFormed}
-use Rattle.memory_store.specs.Stored.{Entry, Committed, history_of}
+use Rattle.memory_store.specs.Index.{HasKeys}
 
--- the log of a store's revisions
-abbrev pub log_of : List Revision → List Entry
-log_of revisions = map (λ (r : Revision). Committed r.writer r.changes) revisions
+-- the history of the kept revisions
+abbrev pub history_in : List Made → History
+history_in history = map (λ (made : Made). made.changes) history
 
 -- the map has what is live at the revision of the history
 abbrev pub HasLive : History → BTreeMap (List ℕ) (List ℕ) → Type 0
 HasLive history live = (k : List ℕ) → get (slice_cmp nat_cmp) live k ≡ live_at history (revision history) k
 
--- the map, where it is there, has what is live
-abbrev pub IsCurrent : History → Option (BTreeMap (List ℕ) (List ℕ)) → Type 0
+-- the map has the lease of each key
+abbrev pub HasLeases : History → BTreeMap (List ℕ) ℕ → Type 0
+HasLeases history leases = (k : List ℕ) → get (slice_cmp nat_cmp) leases k ≡ lease_of history k
+
+-- what is live, and the leases, are those of the history
+pub record IsCurrentIn (history : History) (current : Current) : Type 0 where
+  pub live : HasLive history current.live
+  pub leases : HasLeases history current.attached.leases
+  pub keys : HasKeys current.attached.leases current.attached.keys
+
+-- the same, where it is there
+abbrev pub IsCurrent : History → Option Current → Type 0
 IsCurrent history None = Unit {0}
-IsCurrent history (Some live) = HasLive history live
+IsCurrent history (Some current) = IsCurrentIn history current
+
+-- what is live, and the leases, after the changes
+pub record IsAfter (changes : List Change) (old new : Current) : Type 0 where
+  pub live : (k : List ℕ) → get (slice_cmp nat_cmp) new.live k ≡ after_changes k (get (slice_cmp nat_cmp) old.live k) changes
+  pub leases : (k : List ℕ) → get (slice_cmp nat_cmp) new.attached.leases k ≡ lease_after_all k (get (slice_cmp nat_cmp) old.attached.leases k) changes
+  pub keys : HasKeys new.attached.leases new.attached.keys
 
 -- what holds of the fields of every store
-pub record IsKept (revisions : List Revision) (live : Option (BTreeMap (List ℕ) (List ℕ))) : Type 0 where
-  pub few : length revisions ≤ 2 ^ 63 - 2
-  pub formed : IsFormed (history_of (log_of revisions))
-  pub current : IsCurrent (history_of (log_of revisions)) live
+pub record IsKept (log : List Entry) (history : List Made) (compacted : ℕ) (leases : LeaseTable) (kept : Option Current) : Type 0 where
+  pub contents : contents_of log ≡ record { history = history_in history; compacted = compacted; leases = leases }
+  pub few : length history ≤ 2 ^ 63 - 2
+  pub formed : IsFormed (history_in history)
+  pub current : IsCurrent (history_in history) kept
 
 -- the first that is there
 abbrev pub first_of : Option (List ℕ) → Option (List ℕ) → Option (List ℕ)

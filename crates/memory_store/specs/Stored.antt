@@ -1,35 +1,23 @@
--- What a store in memory holds: a log, of which its contents are a function.
+-- What a store in memory holds, and what it means.
 -- Source: etcd, "Data model" (a store is the log of what was done to it).
 use Rattle.std.specs.Prelude.{ℕ, List, [], ◌∷◌, ◌++◌, true, None}
-use Rattle.std.specs.List.{flat_map}
 use Rattle.store_api.specs.History.{History, revision, live_at, changes_of}
-use Rattle.store_api.specs.Contents.{Contents, LeaseTable, empty_contents}
+use Rattle.store_api.specs.Leases.{LeaseTable}
 use Rattle.store_api.specs.Meaning.{Meaning}
 use Rattle.store_api.specs.declared.change.Change.{Change}
 use Rattle.store_api.specs.declared.change.Op.{Op}
+use Rattle.memory_store.specs.Entries.{Entry, Committed, contents_of}
 
--- what was done to a store, and by which writer
-pub data Entry : Type 0 where
-  Committed : (writer : ℕ) (changes : List Change) → Entry
-
--- what a store in memory holds: its log, and how often it was called
+-- its log, and how often it was called
 pub record Stored : Type 0 where
   pub log : List Entry
   pub calls : ℕ
 
--- what the revisions that an entry makes change
-abbrev pub revisions_by : Entry → List (List Change)
-revisions_by (Committed writer changes) = changes ∷ []
-
 abbrev pub history_of : List Entry → History
-history_of log = flat_map revisions_by log
+history_of log = let contents = contents_of log in contents.history
 
--- no lease was granted
 abbrev pub leases_of : List Entry → LeaseTable
-leases_of log = empty_contents.leases
-
-abbrev pub contents_of : List Entry → Contents
-contents_of log = record { history = history_of log; compacted = 0; leases = leases_of log }
+leases_of log = let contents = contents_of log in contents.leases
 
 -- no call fails, no call is told, nobody else writes, and every key may be written
 abbrev pub meaning_of : Stored → Meaning

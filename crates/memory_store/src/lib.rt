@@ -1,16 +1,22 @@
 //! A key-value store in memory, with etcd's guarantees and without faults.
 //!
-//! `live` has the map of the pairs that are live, `listing` the pairs of some ranges in it, `store`
-//! the store: its history, and that map beside it, and `laws` what holds of every history.
+//! `live` has the pairs that are live, `attached` their leases, `listing` the pairs of some ranges,
+//! `watch` what a watch delivers of the history, `lapses` what leases delete as they lapse, `log`
+//! what was done, which contracts alone see, `store` the store with its history, and `laws` what
+//! holds of every history.
 //! It knows nothing of clusters, key paths or threads.
 #![tactic(auto)]
 
+mod attached;
+mod lapses;
 mod laws;
 mod listing;
 mod live;
+mod log;
 mod store;
 #[cfg(test)]
 mod tests;
+mod watch;
 
-pub use laws::{commits_keep_form, readings_agree};
+pub use laws::{commits_keep_form, lapses_keep_form};
 pub use store::MemoryStore;

@@ -1,66 +1,94 @@
-// The map of the pairs that are live, and what operations change over it.
-ghost use Rattle.std.specs.Prelude.{◌≡◌, ◌++◌, ℕ, List, [], Option, IfOk, OnOk};
+// What is live, and what operations change over it.
+ghost use Rattle.std.specs.Prelude.{◌≡◌, ◌∷◌, ℕ, List, [], Option, IfOk, OnOk};
 ghost use Rattle.std.specs.Ordering.{nat_cmp};
 ghost use Rattle.std.specs.Cmp.Lexicographic.{slice_cmp};
 ghost use Rattle.std.specs.BTreeMap.{get};
 ghost use Rattle.store_api.specs.Contents.{dead_lease};
-ghost use Rattle.store_api.specs.History.{after_change, after_changes, changes_of};
-ghost use Rattle.memory_store.specs.Kept.{HasLive, IsCurrent, log_of};
-ghost use Rattle.memory_store.specs.Stored.{history_of, leases_of};
+ghost use Rattle.store_api.specs.History.{changes_of};
+ghost use Rattle.memory_store.specs.Index.{HasKeys};
+ghost use Rattle.memory_store.specs.Kept.{IsAfter, IsCurrent, IsCurrentIn, history_in};
 
-use mesh_base::{Bytes, Memory};
+use crate::attached::Attached;
+use lease_clock::Leases;
+use mesh_base::{Bytes, Items, Memory};
 use std::alloc::Global;
 use std::collections::BTreeMap;
-use store_api::{Change, Op, Revision};
+use store_api::{Change, Op};
 
 pub type Live = BTreeMap<Bytes, Bytes>;
 
-fn apply_change(live: &mut Live, change: &Change) -> Result<(), Memory>
-    ensures { OnOk result ((k : List ℕ) → get (slice_cmp nat_cmp) live.new k ≡ after_change k (get (slice_cmp nat_cmp) live.old k) change.now) }
+/// A revision as the store keeps it: its place in the history tells its number.
+#[derive(Drop)]
+pub struct Made {
+    pub writer: u32,
+    pub changes: Items<Change>,
+}
+
+/// The live pairs, and their leases.
+#[derive(Drop)]
+pub struct Current {
+    pub live: Live,
+    pub attached: Attached,
+}
+
+impl Current {
+    /// Nothing is live.
+    pub fn new(alloc: Global) -> Current
+        ensures { IsCurrentIn [] result }
+    {
+        Current {
+            live: BTreeMap::new(alloc),
+            attached: Attached::new(alloc),
+        }
+    }
+}
+
+fn apply_change(alloc: Global, current: &mut Current, change: &Change) -> Result<(), Memory>
+    requires { HasKeys current.old.attached.leases current.old.attached.keys }
+    ensures { OnOk result (IsAfter (change.now ∷ []) current.old current.new) }
 {
     match change {
-        Change::Put {
-            key,
-            value,
-            lease: _,
-        } => {
-            live.insert(key.clone()?, value.clone()?)?;
+        Change::Put { key, value, lease } => {
+            current.live.insert(key.clone()?, value.clone()?)?;
+            current.attached.attach(alloc, key, *lease)?;
         }
         Change::Delete { key } => {
-            live.remove(key);
+            current.live.remove(key);
+            current.attached.attach(alloc, key, None)?;
         }
     }
     Ok(())
 }
 
-pub fn apply_changes(live: &mut Live, changes: &[Change]) -> Result<(), Memory>
-    ensures { OnOk result ((k : List ℕ) → get (slice_cmp nat_cmp) live.new k ≡ after_changes k (get (slice_cmp nat_cmp) live.old k) changes.now) }
+pub fn apply_changes(alloc: Global, current: &mut Current, changes: &[Change]) -> Result<(), Memory>
+    requires { HasKeys current.old.attached.leases current.old.attached.keys }
+    ensures { OnOk result (IsAfter changes.now current.old current.new) }
 {
     for change in changes {
-        apply_change(live, change)?;
+        apply_change(alloc, current, change)?;
     }
     Ok(())
 }
 
-/// The pairs that are live after the revisions.
-fn live_pairs(alloc: Global, revisions: &[Revision]) -> Result<Live, Memory>
-    ensures { IfOk result (HasLive (history_of (log_of revisions.now))) }
+/// What is live after the revisions.
+fn live_after(alloc: Global, history: &[Made]) -> Result<Current, Memory>
+    ensures { IfOk result (IsCurrentIn (history_in history.now)) }
 {
-    let mut live = BTreeMap::new(alloc);
-    for revision in revisions {
-        apply_changes(&mut live, revision.changes.as_slice())?;
+    let mut current = Current::new(alloc);
+    for made in history {
+        apply_changes(alloc, &mut current, made.changes.as_slice())?;
     }
-    Ok(live)
+    Ok(current)
 }
 
-/// The map that is there, or else one of the pairs that are live after the revisions.
-pub fn current(alloc: Global, kept: Option<Live>, revisions: &[Revision]) -> Result<Live, Memory>
-    requires { IsCurrent (history_of (log_of revisions.now)) kept }
-    ensures { IfOk result (HasLive (history_of (log_of revisions.now))) }
+/// What is there, or else what is live after the revisions.
+pub fn live_now(alloc: Global, kept: Option<Current>, history: &[Made]) -> Result<Current, Memory>
+    requires { IsCurrent (history_in history.now) kept }
+    ensures { IfOk result (IsCurrentIn (history_in history.now)) }
 {
     match kept {
-        Some(live) => Ok(live),
-        None => live_pairs(alloc, revisions),
+        Some(current) => Ok(current),
+        None => live_after(alloc, history),
     }
 }
 
@@ -91,15 +119,16 @@ pub fn changes_over(alloc: Global, live: &Live, ops: &[Op]) -> Result<Vec<Change
     Ok(changes)
 }
 
-/// The first lease that a put names: none is live.
-pub fn dead_lease(ops: &[Op]) -> Option<u64>
-    ensures { result ≡ dead_lease (leases_of []) ops.now }
+/// The first lease that a put names and that is not live.
+pub fn dead_lease(leases: &Leases, ops: &[Op]) -> Option<u64>
+    ensures { result ≡ dead_lease leases.now ops.now }
 {
     for op in ops {
         if let Op::Put {
             lease: Some(lease),
             ..
         } = op
+            && !leases.is_live(*lease)
         {
             return Some(*lease);
         }

@@ -1,17 +1,24 @@
-ghost use Rattle.std.specs.Prelude.{◌≡◌, ◌≢◌, ◌≤◌, ◌+◌, ◌⊎◌, ℕ, List, [], true, length, map, OnOk, OnErr, IfOk, Some, None};
+ghost use Rattle.std.specs.Prelude.{◌≡◌, ◌≢◌, ◌≤◌, ◌+◌, ◌⊎◌, ◌++◌, ◌∷◌, ℕ, List, [], true, false, length, map, OnOk, OnErr, IfOk, IfErr, Some, None};
 ghost use Rattle.std.specs.List.{IsDistinct};
 ghost use Rattle.mesh_base.specs.Order.{same_bytes};
 ghost use Rattle.store_api.specs.History.{key_of, revision};
-ghost use Rattle.store_api.specs.Contents.{after_commit, dead_lease, empty_contents};
+ghost use Rattle.store_api.specs.Contents.{after_commit, after_compact, after_grant, after_keep_alive, after_tick, dead_lease, empty_contents};
+ghost use Rattle.store_api.specs.Leases.{is_live_lease};
+ghost use Rattle.memory_store.specs.Entries.{Compacted, Granted, KeptAlive, Ticked, contents_of};
 ghost use Rattle.memory_store.specs.Formed.{IsFormed};
-ghost use Rattle.memory_store.specs.Stored.{contents_of, history_of, leases_of, logged, meaning_of};
+ghost use Rattle.memory_store.specs.Stored.{history_of, leases_of, logged, meaning_of};
 
+use crate::lapses::lapses;
 use crate::listing::listed;
-use crate::live::{Live, apply_changes, changes_over, current, dead_lease};
+use crate::live::{Current, Made, apply_changes, changes_over, dead_lease, live_now};
+use crate::log::Log;
+use crate::watch::delivered;
+use lease_clock::Leases;
 use mesh_base::{Count, Items, Memory};
 use std::alloc::Global;
 use std::marker::Model;
-use store_api::{Listing, MAX_OPS, Op, Ranges, Revision, Store, StoreAdmin, StoreFault};
+use std::snapshot::Snapshot;
+use store_api::{Batch, Listing, MAX_OPS, Op, Ranges, Store, StoreAdmin, StoreFault};
 
 /// The most revisions of one store, so that numbers stay below 2 ^ 63.
 const MOST_REVISIONS: usize = (1 << 63) - 2;
@@ -21,21 +28,24 @@ const MOST_REVISIONS: usize = (1 << 63) - 2;
 /// Contracts see its log and the number of its calls. Its calls never answer `Lost`.
 #[derive(Drop)]
 pub struct MemoryStore {
-    history: Items<Revision>,
+    history: Vec<Made>,
+    compacted: u64,
+    leases: Leases,
     /// What is live now; not there after a call that wanted memory, and made again at the next one.
-    live: Option<Live>,
+    current: Option<Current>,
+    log: Log,
     calls: Count,
 }
 
 impl Model for MemoryStore {
-    ghost use Rattle.memory_store.specs.Kept.{IsKept, log_of};
+    ghost use Rattle.memory_store.specs.Kept.{IsKept};
     ghost use Rattle.memory_store.specs.Stored.{Stored};
 
     ghost Value = { Stored };
 
-    ghost view = { λ s. record { log = log_of s.history; calls = s.calls } };
+    ghost view = { λ s. record { log = s.log; calls = s.calls } };
 
-    ghost invariant = { λ s. IsKept s.history s.live };
+    ghost invariant = { λ s. IsKept s.log s.history.items s.compacted s.leases s.current };
 }
 
 impl MemoryStore {
@@ -50,8 +60,11 @@ impl MemoryStore {
         ensures writable { (k : List ℕ) → (⟦<MemoryStore as Store>⟧.meaning result).writable k ≡ true }
     {
         MemoryStore {
-            history: Items::new(alloc),
-            live: Some(Live::new(alloc)),
+            history: Vec::new(alloc),
+            compacted: 0,
+            leases: Leases::new(alloc),
+            current: Some(Current::new(alloc)),
+            log: Log::new(),
             calls: Count::new(),
         }
     }
@@ -84,30 +97,118 @@ impl MemoryStore {
         ensures calls { self.new.calls ≡ self.old.calls + 1 }
     {
         self.calls.raise();
-        if let Some(lease) = dead_lease(ops) {
+        if let Some(lease) = dead_lease(&self.leases, ops) {
             return Err(StoreFault::NoLease { lease });
         }
-        let mut live = current(alloc, self.live.take(), self.history.as_slice())?;
-        let changes = changes_over(alloc, &live, ops)?;
+        let mut current = live_now(alloc, self.current.take(), self.history.as_slice())?;
+        let changes = changes_over(alloc, &current.live, ops)?;
         let at = self.history.len();
         if changes.is_empty() {
-            self.live = Some(live);
+            self.current = Some(current);
             return Ok(at as u64 + 1);
         }
         if at >= MOST_REVISIONS {
-            self.live = Some(live);
+            self.current = Some(current);
             return Err(StoreFault::Memory);
         }
-        apply_changes(&mut live, changes.as_slice())?;
-        let number = at as u64 + 2;
+        apply_changes(alloc, &mut current, changes.as_slice())?;
         let changes = Items::from_vec(changes);
-        self.history.push(Revision {
-            number,
-            writer,
-            changes,
-        })?;
-        self.live = Some(live);
+        let noted = Snapshot::of(&changes);
+        self.history.push(Made { writer, changes })?;
+        self.current = Some(current);
+        self.log.committed(writer, noted);
+        Ok(at as u64 + 2)
+    }
+
+    /// `grant` by this writer.
+    ///
+    /// Once 2 ^ 64 - 1 leases are granted, the answer is `Memory`. Constant, but for the growth of a
+    /// vector.
+    pub fn grant_as(&mut self, writer: u32, seconds: u64) -> Result<u64, StoreFault>
+        requires { 1 ≤ seconds }
+
+        ensures log { OnOk result (self.new.log ≡ self.old.log ++ Granted writer seconds ∷ []) }
+        ensures contents { OnOk result (contents_of self.new.log ≡ after_grant seconds (contents_of self.old.log)) }
+        ensures number { IfOk result (λ number. number ≡ (leases_of self.new.log).last) }
+        ensures refused { OnErr result (self.new.log ≡ self.old.log) }
+        ensures refusals { IfErr result (λ fault. fault ≡ StoreFault.Memory) }
+
+        ensures calls { self.new.calls ≡ self.old.calls + 1 }
+    {
+        self.calls.raise();
+        let number = self.leases.grant(seconds)?;
+        self.log.granted(writer, seconds);
         Ok(number)
+    }
+
+    /// `keep_alive` by this writer. Logarithmic in the live leases; takes no memory.
+    pub fn keep_as(&mut self, writer: u32, lease: u64) -> Result<(), StoreFault>
+        ensures log { OnOk result (self.new.log ≡ self.old.log ++ KeptAlive writer lease ∷ []) }
+        ensures contents { OnOk result (contents_of self.new.log ≡ after_keep_alive lease (contents_of self.old.log)) }
+        ensures refused { OnErr result (self.new.log ≡ self.old.log) }
+
+        // A lease that is not live is refused.
+        ensures live { OnOk result (is_live_lease (leases_of self.old.log).live lease ≡ true) }
+        ensures no_lease { OnErr result (is_live_lease (leases_of self.old.log).live lease ≡ false) }
+        ensures refusals { IfErr result (λ fault. fault ≡ StoreFault.NoLease lease) }
+
+        ensures calls { self.new.calls ≡ self.old.calls + 1 }
+    {
+        self.calls.raise();
+        if self.leases.renew(lease).is_none() {
+            return Err(StoreFault::NoLease { lease });
+        }
+        self.log.kept_alive(writer, lease);
+        Ok(())
+    }
+
+    /// `tick` by this writer.
+    ///
+    /// Takes no memory where no lease is due, and is constant then, but for one walk over the live
+    /// leases at the first tick at or after the earliest deadline before it was moved. A lapse costs
+    /// its keys. A store at its last revision answers `Memory` to a tick that makes one.
+    pub fn tick_as(&mut self, alloc: Global, writer: u32, seconds: u64) -> Result<u64, StoreFault>
+        ensures log { OnOk result (self.new.log ≡ self.old.log ++ Ticked writer seconds ∷ []) }
+        ensures contents { OnOk result (contents_of self.new.log ≡ after_tick seconds (contents_of self.old.log)) }
+        ensures revision { IfOk result (λ number. number ≡ revision (history_of self.new.log)) }
+        ensures refused { OnErr result (self.new.log ≡ self.old.log) }
+        ensures refusals { IfErr result (λ fault. fault ≡ StoreFault.Memory) }
+
+        ensures calls { self.new.calls ≡ self.old.calls + 1 }
+    {
+        self.calls.raise();
+        if !self.leases.has_due_after(seconds) {
+            self.leases.advance(seconds);
+            self.log.ticked(writer, seconds);
+            return Ok(self.history.len() as u64 + 1);
+        }
+        let due = self.leases.due_after(alloc, seconds)?;
+        let mut current = live_now(alloc, self.current.take(), self.history.as_slice())?;
+        let mut made = lapses(alloc, &mut current, writer, due.as_slice())?;
+        if made.len() > MOST_REVISIONS - self.history.len() {
+            return Err(StoreFault::Memory);
+        }
+        self.history.append(&mut made)?;
+        self.current = Some(current);
+        self.leases.advance(seconds);
+        self.leases.expire();
+        self.log.ticked(writer, seconds);
+        Ok(self.history.len() as u64 + 1)
+    }
+
+    /// `compact` by this writer. Constant; takes no memory.
+    pub fn compact_as(&mut self, writer: u32, upto: u64) -> u64
+        ensures log { self.new.log ≡ self.old.log ++ Compacted writer upto ∷ [] }
+        ensures contents { contents_of self.new.log ≡ after_compact upto (contents_of self.old.log) }
+        ensures number { result ≡ (contents_of self.new.log).compacted }
+
+        ensures calls { self.new.calls ≡ self.old.calls + 1 }
+    {
+        self.calls.raise();
+        let revision = self.history.len() as u64 + 1;
+        self.compacted = self.compacted.max(upto.min(revision));
+        self.log.compacted(writer, upto);
+        self.compacted
     }
 }
 
@@ -120,18 +221,54 @@ impl Store for MemoryStore {
 
     fn list(&mut self, alloc: Global, ranges: &Ranges) -> Result<Listing, StoreFault> {
         self.calls.raise();
-        let live = current(alloc, self.live.take(), self.history.as_slice())?;
-        let pairs = listed(alloc, &live, ranges);
-        self.live = Some(live);
+        let current = live_now(alloc, self.current.take(), self.history.as_slice())?;
+        let pairs = listed(alloc, &current.live, ranges);
+        self.current = Some(current);
         Ok(Listing {
             at: self.history.len() as u64 + 1,
             pairs: pairs?,
         })
     }
 
+    fn pull(
+        &mut self,
+        alloc: Global,
+        ranges: &Ranges,
+        from: u64,
+        most: u64,
+    ) -> Result<Batch, StoreFault> {
+        self.calls.raise();
+        if from <= self.compacted {
+            return Err(StoreFault::Compacted {
+                compacted: self.compacted,
+            });
+        }
+        let after = from - 1;
+        let last = self.history.len() as u64 + 1;
+        let upto = after.max(after.saturating_add(most).min(last));
+        let revisions = delivered(alloc, self.history.as_slice(), ranges, after, upto)?;
+        Ok(Batch { upto, revisions })
+    }
+
     fn commit(&mut self, alloc: Global, ops: &[Op]) -> Result<u64, StoreFault> {
         self.commit_as(alloc, 0, ops)
     }
+
+    fn grant(&mut self, _: Global, seconds: u64) -> Result<u64, StoreFault> {
+        self.grant_as(0, seconds)
+    }
+
+    fn keep_alive(&mut self, lease: u64) -> Result<(), StoreFault> {
+        self.keep_as(0, lease)
+    }
 }
 
-impl StoreAdmin for MemoryStore {}
+impl StoreAdmin for MemoryStore {
+    fn tick(&mut self, alloc: Global, seconds: u64) -> Result<u64, StoreFault> {
+        self.tick_as(alloc, 0, seconds)
+    }
+
+    fn compact(&mut self, _: Global, upto: u64) -> Result<u64, Memory> {
+        Ok(self.compact_as(0, upto))
+    }
+}

@@ -1,9 +1,14 @@
 -- What the crates above may cite of histories.
-use Rattle.std.proofs.Common.{◌≡◌, ℕ, zero, suc, List, [], ◌∷◌, Option, None, Some, Bool, true, false, cond, is_some, IsTrue, refl, ap, ◌∙◌}
-use Rattle.std.specs.Ordering.{nat_cmp}
+use Rattle.std.proofs.Common.{◌≡◌, ℕ, zero, suc, List, [], ◌∷◌, map, Option, None, Some, Bool, true, false, cond, ◌&&◌, T, is_some, IsTrue, refl, ap, ◌∙◌}
+use Rattle.std.specs.List.{AllByRecursion}
+use Rattle.std.specs.List.Sorted.{IsStrictlySortedBy}
+use Rattle.std.specs.Ordering.{nat_cmp, is_lt}
+use Rattle.std.specs.declared.cmp.Ordering.{Ordering}
+use Rattle.std.specs.declared.cmp.Ordering.TheVariants.{Less, Equal, Greater}
 use Rattle.std.specs.Cmp.Lexicographic.{slice_cmp, nat_list_cmp_total}
 use Rattle.std.specs.Cmp.{eq_by_cmp_equiv}
-use Rattle.std.specs.FinMap.{get, get-empty, get-insert, get-remove}
+use Rattle.std.specs.FinMap.{FinMap, keys, entries, entries_sorted, get, get-empty, get-insert, get-remove}
+use Rattle.std.specs.FinMap.Entries.{is_sorted, below_all}
 use Rattle.mesh_base.specs.Order.{same_bytes}
 use Rattle.store_api.specs.Attached.{lease_after, lease_after_all, lease_at}
 use Rattle.store_api.specs.History.{History, Pairing, changes_at, live_at, map_at, after_all, changed_map, after_change, after_changes}
@@ -11,6 +16,30 @@ use Rattle.store_api.specs.Laws.{AttachedAreLive}
 use Rattle.store_api.specs.declared.change.Change.{Change}
 use Rattle.store_api.specs.declared.change.Change.TheVariants as change
 
+-- ---- the keys of a finite map rise
+less_of : (o : Ordering) → T (is_lt o) → o ≡ Less
+less_of Less h = refl
+less_of Equal h = absurd h
+less_of Greater h = absurd h
+
+both_of : (a b : Bool) → T (a && b) → T a × T b
+both_of true b h = (tt, h)
+both_of false b h = absurd h
+
+module _ {K X : Type 0} (R : K → K → Ordering) where
+  all_below : (k : K) (es : List (K × X)) → T (below_all R k es) → AllByRecursion (λ (q : K). R k q ≡ Less) (map (λ (e : K × X). e.0) es)
+  all_below k [] h = tt
+  all_below k (e ∷ es) h = let two = both_of (is_lt (R k e.0)) (below_all R k es) h in (less_of (R k e.0) two.0, all_below k es two.1)
+
+  in_order : (es : List (K × X)) → T (is_sorted R es) → IsStrictlySortedBy R (map (λ (e : K × X). e.0) es)
+  unfolding IsStrictlySortedBy
+  in_order [] h = tt
+  in_order (e ∷ es) h = let two = both_of (below_all R e.0 es) (is_sorted R es) h in (all_below e.0 es two.0, in_order es two.1)
+
+  pub keys_rise : (m : FinMap R X) → IsStrictlySortedBy R (keys m)
+  keys_rise m = in_order (entries m) (entries_sorted m)
+
+-- ---- what is live
 -- what a finite map has at a key after a change, and after changes
 pub get-changed : (m : Pairing) (c : Change) (k : List ℕ) → get (changed_map m c) k ≡ after_change k (get m k) c
 get-changed m (change.Put key value lease) k = get-insert nat_list_cmp_total m key value k ∙ ap (λ (b : Bool). cond b (Some value) (get m k)) ((eq_by_cmp_equiv nat_list_cmp_total).symm k key)

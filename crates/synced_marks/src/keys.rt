@@ -1,4 +1,4 @@
-ghost use Rattle.std.specs.Prelude.{◌≡◌, decimal, IfOk};
+ghost use Rattle.std.specs.Prelude.{◌≡◌, decimal, IfOk, Some};
 ghost use Rattle.mesh_text.specs.Numbers.{number_of};
 ghost use Rattle.key_paths.specs.Keys.{key_bytes};
 ghost use Rattle.key_paths.specs.Paths as paths;
@@ -25,7 +25,7 @@ fn kind_path(hop: Hop, kind: Kind) -> &'static str
 }
 
 /// The key of the cluster's mark for a kind at a hop: all records of the kind are written.
-#[tactic(auto, unfolding(key_paths::specs::Beginnings::beginning))]
+#[tactic(auto, using(crate::proofs::KeyTexts::mark_bytes), unfolding(key_paths::specs::Beginnings::beginning))]
 pub fn mark_key(
     alloc: Global,
     cluster: &ClusterName,
@@ -43,7 +43,7 @@ pub fn mark_key(
 }
 
 /// The key of the cluster's cut, which says of which revision a cache is the image.
-#[tactic(auto, unfolding(key_paths::specs::Beginnings::beginning))]
+#[tactic(auto, using(crate::proofs::KeyTexts::cut_bytes), unfolding(key_paths::specs::Beginnings::beginning))]
 pub fn cut_key(alloc: Global, cluster: &ClusterName) -> Result<Vec<u8>, Memory>
     ensures cut { IfOk result (λ key. key.items ≡ paths.cut_key cluster.now) }
     ensures key { IfOk result (λ key. key.items ≡ key_bytes (Key.Cut cluster.now)) }
@@ -53,9 +53,11 @@ pub fn cut_key(alloc: Global, cluster: &ClusterName) -> Result<Vec<u8>, Memory>
     Ok(key)
 }
 
-/// The value of a cut at this revision: its canonical decimal.
+/// The value of a cut at this revision: its canonical decimal, which `read_cut` reads back.
+#[tactic(auto, using(mesh_text::proofs::CallerLemmas::number_of-decimal))]
 pub fn cut_value(alloc: Global, revision: u64) -> Result<Vec<u8>, Memory>
-    ensures { IfOk result (λ value. value.items ≡ decimal revision) }
+    ensures decimal { IfOk result (λ value. value.items ≡ decimal revision) }
+    ensures reads_back { IfOk result (λ value. number_of value.items ≡ Some revision) }
 {
     let text = revision.to_string(alloc)?;
     let value = Vec::from_slice(alloc, text.as_bytes())?;

@@ -15,10 +15,10 @@ use mesh_records::ClusterConfig;
 /// `config` is the source's config where it is valid, and `None` otherwise; validity isn't tested
 /// here. `marks` says in the order of `Kind` which marks are there. It takes no memory.
 pub fn is_synced(config: Option<&ClusterConfig>, marks: [bool; 4]) -> bool
-    ensures by { result ≡ is_synced_by (option_copied config) (list_all (λ mark. mark) marks) }
+    ensures by { result ≡ is_synced_by (option_copied config.entry) (list_all (λ mark. mark) marks) }
 
     // For the pairs of any source with that config and those marks.
-    ensures synced { (cluster : List ℕ) (hop : Hop) (limit : Limit) (pairs : Pairs) → option_copied config ≡ config_in cluster limit pairs → marks ≡ map (has_mark cluster hop pairs) kinds → result ≡ is_synced cluster hop limit pairs }
+    ensures synced { (cluster : List ℕ) (hop : Hop) (limit : Limit) (pairs : Pairs) → option_copied config.entry ≡ config_in cluster limit pairs → marks ≡ map (has_mark cluster hop pairs) kinds → result ≡ is_synced cluster hop limit pairs }
 {
     match config {
         Some(config) => !config.synced_canaries || marks.iter().all(|mark| *mark),
