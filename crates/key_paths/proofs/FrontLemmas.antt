@@ -1,5 +1,5 @@
 -- Which of the beginnings bytes have.
-use Rattle.std.proofs.Common.{◌≡◌, ℕ, ◌≤◌, Bool, true, false, cond, nat_eq, List, [], ◌∷◌, ◌++◌, length, drop, Some, find, refl, sym, ap, ◌∙◌, arith, length-append}
+use Rattle.std.proofs.Common.{◌≡◌, subst, append-nil, ℕ, ◌≤◌, Bool, true, false, cond, nat_eq, List, [], ◌∷◌, ◌++◌, length, drop, Some, find, refl, sym, ap, ◌∙◌, arith, length-append}
 use Rattle.std.proofs.Math.Seq.{drop-append_seam}
 use Rattle.std.specs.List.{starts_with}
 use Rattle.std.proofs.lemmas.Bool.Decides.{Decides-eqb}
@@ -58,3 +58,7 @@ one_beginning bytes a b at_a at_b =
 -- what stands behind the beginning that the bytes have
 pub behind-beginning : (front : Front) (rest : List ℕ) → drop (length (beginning front)) (beginning front ++ rest) ≡ rest
 behind-beginning front rest = drop-append_seam (beginning front) rest
+
+pub begins_with_itself : (front : Front) → starts_with nat_eq (beginning front) (beginning front) ≡ true
+begins_with_itself front =
+    subst (λ bytes. starts_with nat_eq bytes (beginning front) ≡ true) (append-nil (beginning front)) (starts-append (beginning front) [])

@@ -3,4 +3,8 @@ pub mod Forms
 pub mod Parting
 pub mod Writing
 pub mod Sound
+pub mod Complete
+pub mod Moves
+pub mod Ownership
 pub mod FrontLemmas
+pub mod CallerLemmas

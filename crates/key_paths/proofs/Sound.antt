@@ -1,6 +1,5 @@
 -- What is read as a key is the bytes of that key.
-use Rattle.std.proofs.Common.{◌≡◌, ℕ, ◌+◌, ◌<◌, ◌^◌, Bool, true, false, nat_lt, List, [], ◌∷◌, ◌++◌, length, drop, map, Option, Some, None, Result, Ok, Err, ◌&&◌, cond, codes, decimal, IsTrue, bytes_eq, refl, sym, ap, ◌∙◌, subst}
-use Rattle.std.specs.List.{join_with_byte}
+use Rattle.std.proofs.Common.{◌≡◌, ℕ, ◌+◌, ◌<◌, ◌^◌, Bool, true, false, nat_lt, List, [], ◌∷◌, length, drop, map, Option, Some, None, Result, Ok, Err, ◌&&◌, cond, codes, decimal, bytes_eq, refl, sym, ap, ◌∙◌, subst}
 use Rattle.std.specs.Option.{option_and_then, option_map}
 use Rattle.std.proofs.lemmas.Bool.{ltb-true}
 use Rattle.std.proofs.lemmas.Slice.Eq.{bytes_eq-Decides}
@@ -8,7 +7,6 @@ use Rattle.std.proofs.lemmas.List.Splits.{join_with_byte-slice_split}
 use Rattle.mesh_text.specs.declared.ip.Ip.{Ip}
 use Rattle.mesh_text.specs.declared.kind.Kind.{Kind}
 use Rattle.mesh_text.specs.declared.kind.Kind.TheVariants.{Nodes, Services, Identities, Addresses}
-use Rattle.mesh_text.specs.Names.{is_cluster_name, is_part_name}
 use Rattle.mesh_text.specs.Numbers.{number_of}
 use Rattle.mesh_text.specs.Addresses.{address_of, address_text, split_at}
 use Rattle.mesh_text.specs.Laws.{IsIp}
@@ -24,7 +22,7 @@ use Rattle.key_paths.specs.declared.fault.KeyFault.TheVariants as fault
 use Rattle.key_paths.specs.Beginnings.{beginning, front_at}
 use Rattle.key_paths.specs.Paths.{hop_word, kind_word, hops, kinds}
 use Rattle.key_paths.specs.Keys.{front_of, parts_of, key_bytes, IsKey, IsKeyOf, IsClusterName, IsPartName}
-use Rattle.key_paths.specs.Reading.{Place, placed, parts_behind, ◌>>=◌, or_fault, cluster_at, name_at, number_at, ip_at, small_number_of, canonical_address_of, hop_named, kind_named, path_of, mark_from, mark_of_parts, names_at, node_of_parts, service_of_parts, identity_of_parts, address_of_parts, record_of_parts, cluster_alone, key_of_parts, key_behind, key_of}
+use Rattle.key_paths.specs.Reading.{Place, placed, parts_behind, ◌>>=◌, or_fault, cluster_at, name_at, number_at, ip_at, hop_named, kind_named, path_of, mark_from, mark_of_parts, names_at, node_of_parts, service_of_parts, identity_of_parts, address_of_parts, cluster_alone, key_of_parts, key_behind, key_of}
 use Rattle.key_paths.proofs.FrontLemmas.{front_at-sound, find-sound}
 
 -- what two judgements one after the other gave, each gave
@@ -48,7 +46,7 @@ tested-Ok : {A : Type 0} (b : Bool) (x a : A) (e : KeyFault) → cond b (Ok x) (
 tested-Ok true x a e h = (refl, cc)
 tested-Ok false x a e h = absurd cc
 
-tested-Some : {A : Type 0} (b : Bool) (x a : A) → cond b (Some x) None ≡ Some a → (b ≡ true) × (a ≡ x)
+pub tested-Some : {A : Type 0} (b : Bool) (x a : A) → cond b (Some x) None ≡ Some a → (b ≡ true) × (a ≡ x)
 tested-Some true x a h = (refl, cc)
 tested-Some false x a h = absurd cc
 
@@ -220,10 +218,13 @@ path_of-sound first hop kind last path h = by_words (bytes_eq first (codes "cili
     by_words : (is_first is_last : Bool) → bytes_eq first (codes "cilium") ≡ is_first → bytes_eq last (codes "v1") ≡ is_last → cond (is_first && is_last) (option_and_then (λ hop. option_map (λ kind. (hop, kind)) (kind_named kind)) (hop_named hop)) None ≡ Some path → (first ≡ codes "cilium") × ((hop ≡ hop_word path.0) × ((kind ≡ kind_word path.1) × (last ≡ codes "v1")))
     by_words true true e f h =
         let (named_hop, hop_read, h₁) = and_then-Some (hop_named hop) _ path h in
-        let (named_kind, kind_read, h₂) = map-Some (kind_named kind) _ path h₁ in
-        ((bytes_eq-Decides first (codes "cilium")).0 e,
-            (hop_named-sound hop path.0 (hop_read ∙ ap (λ p. Some p.0) h₂),
-                (kind_named-sound kind path.1 (kind_read ∙ ap (λ p. Some p.1) h₂), (bytes_eq-Decides last (codes "v1")).0 f)))
+        let (named_kind, kind_read, h₂) = map-Some (kind_named kind) _ path h₁ in (
+          (bytes_eq-Decides first (codes "cilium")).0 e,
+          (
+            hop_named-sound hop path.0 (hop_read ∙ ap (λ p. Some p.0) h₂),
+            (kind_named-sound kind path.1 (kind_read ∙ ap (λ p. Some p.1) h₂), (bytes_eq-Decides last (codes "v1")).0 f),
+          ),
+        )
     by_words true false e f h = absurd cc
     by_words false true e f h = absurd cc
     by_words false false e f h = absurd cc

@@ -1,5 +1,5 @@
 -- Parts joined by `/`.
-use Rattle.std.proofs.Common.{◌≡◌, ℕ, List, [], ◌∷◌, ◌++◌, map, flat_map, refl, sym, ap, ◌∙◌, append_assoc, append-nil, Bor}
+use Rattle.std.proofs.Common.{◌≡◌, ℕ, List, [], ◌∷◌, ◌++◌, map, flat_map, sym, ap, ◌∙◌, append_assoc, append-nil, Bor}
 use Rattle.std.specs.List.{join_with_byte}
 
 -- the parts after the first, each behind the byte

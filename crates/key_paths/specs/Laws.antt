@@ -1,5 +1,5 @@
 -- What beginnings, reading, writing, ranges and the mapping have to do with each other.
-use Rattle.std.specs.Prelude.{◌≡◌, ◌↔◌, ℕ, List, ◌++◌, IsTrue, IsSomeAnd, Option, None, Some, Result, Ok, is_some, nat_eq}
+use Rattle.std.specs.Prelude.{◌≡◌, ◌↔◌, ℕ, List, ◌++◌, IsTrue, Some, Ok, is_some, nat_eq}
 use Rattle.std.specs.List.{starts_with}
 use Rattle.mesh_text.specs.declared.kind.Kind.{Kind}
 use Rattle.store_api.specs.History.{in_ranges}

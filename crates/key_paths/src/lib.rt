@@ -8,16 +8,23 @@ mod fault;
 mod front;
 mod hop;
 mod key;
+mod laws;
 mod mapping;
 mod parts;
 mod paths;
 mod read;
+#[cfg(test)]
+mod tests;
 mod words;
 mod write;
 
 pub use fault::KeyFault;
 pub use hop::Hop;
 pub use key::Key;
+pub use laws::{
+    exchanges_fronts, has_kind_of_range, maps_record_ranges, moves_back, no_beginning_of_another,
+    owned_by_one_cluster, reads_keys_alone, reads_written_keys,
+};
 pub use mapping::{to_cache, to_state};
 pub use mesh_text::Kind;
 pub use paths::ranges;

@@ -36,11 +36,7 @@ fn moved_among(
 /// exchanged for that of the same kind in the cache. What follows is kept, also where it isn't what
 /// a key may have there. `None` exactly where the key has none of the four beginnings.
 #[tactic(auto, unfolding(crate::specs::Mapping::moved))]
-pub fn to_cache(
-    alloc: Global,
-    cluster: &ClusterName,
-    key: &[u8],
-) -> Result<Option<Vec<u8>>, Memory>
+pub fn to_cache(alloc: Global, cluster: &ClusterName, key: &[u8]) -> Result<Option<Vec<u8>>, Memory>
     ensures { IfOk result (λ o. option_map (λ v. v.items) o ≡ cache_key_of cluster.now key.now) }
 {
     moved_among(
@@ -59,11 +55,7 @@ pub fn to_cache(
 /// of the same kind in the exporter's store, and what follows is kept. `None` exactly where the key
 /// has none of the four beginnings.
 #[tactic(auto, unfolding(crate::specs::Mapping::moved))]
-pub fn to_state(
-    alloc: Global,
-    cluster: &ClusterName,
-    key: &[u8],
-) -> Result<Option<Vec<u8>>, Memory>
+pub fn to_state(alloc: Global, cluster: &ClusterName, key: &[u8]) -> Result<Option<Vec<u8>>, Memory>
     ensures { IfOk result (λ o. option_map (λ v. v.items) o ≡ state_key_of cluster.now key.now) }
 {
     moved_among(

@@ -155,12 +155,7 @@ fn cached_address(alloc: Global, parts: &[Part<'_>]) -> Result<Key, KeyFault>
     })
 }
 
-fn record_of_parts(
-    alloc: Global,
-    kind: Kind,
-    hop: Hop,
-    parts: &[Part<'_>],
-) -> Result<Key, KeyFault>
+fn record_of_parts(alloc: Global, kind: Kind, hop: Hop, parts: &[Part<'_>]) -> Result<Key, KeyFault>
     ensures { Gives result (record_of_parts kind hop (map seen parts.now)) }
 {
     match (kind, hop) {

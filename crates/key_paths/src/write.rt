@@ -59,11 +59,7 @@ fn write_identity(
 }
 
 #[tactic(auto, unfolding(crate::specs::Keys::key_bytes))]
-fn write_address(
-    alloc: Global,
-    cached: &Option<ClusterName>,
-    ip: Ip,
-) -> Result<Vec<u8>, Memory>
+fn write_address(alloc: Global, cached: &Option<ClusterName>, ip: Ip) -> Result<Vec<u8>, Memory>
     ensures { IfOk result (λ v. v.items ≡ key_bytes (Key.Address cached.now ip)) }
 {
     let address = write_ip(alloc, ip)?;
@@ -84,12 +80,7 @@ fn write_address(
 }
 
 #[tactic(auto, unfolding(crate::specs::Keys::key_bytes))]
-fn write_mark(
-    alloc: Global,
-    cluster: &ClusterName,
-    hop: Hop,
-    kind: Kind,
-) -> Result<Vec<u8>, Memory>
+fn write_mark(alloc: Global, cluster: &ClusterName, hop: Hop, kind: Kind) -> Result<Vec<u8>, Memory>
     ensures { IfOk result (λ v. v.items ≡ key_bytes (Key.Synced cluster.now hop kind)) }
 {
     let path = [b"cilium", hop_word(hop), kind_word(kind), b"v1"];
