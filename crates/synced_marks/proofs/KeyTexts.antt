@@ -1,5 +1,7 @@
 -- The keys of a cluster's marks and of its cut, as the bytes of a key.
-use Rattle.std.proofs.Common.{◌≡◌, ℕ, List, [], ◌∷◌, ◌++◌, codes, refl, sym, ap, ◌∙◌, append_assoc}
+use Rattle.std.proofs.Common.{◌≡◌, ℕ, List, [], ◌∷◌, ◌++◌, ◌<◌, ◌^◌, codes, decimal, Some, refl, sym, ap, ◌∙◌, append_assoc}
+use Rattle.mesh_text.specs.Numbers.{number_of}
+use Rattle.mesh_text.proofs.CallerLemmas.{number_of-decimal}
 use Rattle.mesh_text.specs.declared.kind.Kind.{Kind}
 use Rattle.mesh_text.specs.declared.kind.Kind.TheVariants.{Nodes, Services, Identities, Addresses}
 use Rattle.key_paths.specs.declared.hop.Hop.{Hop}
@@ -25,3 +27,6 @@ mark_bytes cluster Cache Addresses = grouped _ cluster (codes "/") _
 pub cut_bytes : (cluster : List ℕ) → key_bytes (key.Cut cluster) ≡ cut_key cluster
 unfolding key_bytes
 cut_bytes cluster = refl
+
+pub reads_decimal : (n : ℕ) → n < 2 ^ 64 → number_of (decimal n) ≡ Some n
+reads_decimal n fits = number_of-decimal n fits

@@ -54,7 +54,7 @@ pub fn cut_key(alloc: Global, cluster: &ClusterName) -> Result<Vec<u8>, Memory>
 }
 
 /// The value of a cut at this revision: its canonical decimal, which `read_cut` reads back.
-#[tactic(auto, using(mesh_text::proofs::CallerLemmas::number_of-decimal))]
+#[tactic(auto, using(crate::proofs::KeyTexts::reads_decimal))]
 pub fn cut_value(alloc: Global, revision: u64) -> Result<Vec<u8>, Memory>
     ensures decimal { IfOk result (λ value. value.items ≡ decimal revision) }
     ensures reads_back { IfOk result (λ value. number_of value.items ≡ Some revision) }
