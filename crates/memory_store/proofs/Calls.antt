@@ -1,13 +1,15 @@
 -- What the calls of a store in memory do to its log and its meaning.
-use Rattle.std.proofs.Common.{◌≡◌, ℕ, ◌+◌, List, [], ◌∷◌, ◌++◌, refl, ap, sym, ◌∙◌, arith}
+use Rattle.std.proofs.Common.{◌≡◌, ℕ, ◌+◌, ◌==◌, List, [], ◌∷◌, ◌++◌, map, Bool, true, false, cond, ◌||◌, Result, Ok, Err, OnOk, OnErr, refl, ap, ap₂, sym, ◌∙◌, subst, append_assoc, arith}
 use Rattle.std.proofs.lemmas.List.{append-nil}
-use Rattle.store_api.specs.History.{History, with_revision, changes_of, committed, live_at, revision}
-use Rattle.store_api.specs.Contents.{Contents, after_commit}
-use Rattle.store_api.specs.Meaning.{Finds, Makes}
+use Rattle.store_api.specs.Attached.{all_lapsed, attached_keys, deletions, lapsed}
+use Rattle.store_api.specs.History.{Begins, History, with_revision}
+use Rattle.store_api.specs.Contents.{Contents, after_commit, after_keep_alive, after_tick}
+use Rattle.store_api.specs.Leases.{Lease, advanced, deadline_at, due_leases, is_live_lease, kept_alive}
+use Rattle.store_api.specs.Meaning.{Finds, Keeps, Makes}
 use Rattle.store_api.specs.declared.change.Change.{Change}
 use Rattle.store_api.specs.declared.change.Op.{Op}
 use Rattle.memory_store.specs.Entries.{Entry, Committed, after_entries, after_entry, contents_of}
-use Rattle.memory_store.specs.Stored.{Stored, history_of, meaning_of, with_entry, logged}
+use Rattle.memory_store.specs.Stored.{Stored, history_of, leases_of, meaning_of, with_entry, logged}
 
 -- ---- one entry more
 after_more : (contents : Contents) (log : List Entry) (e : Entry) → after_entries contents (log ++ e ∷ []) ≡ after_entry (after_entries contents log) e
@@ -39,3 +41,38 @@ makes old new effect left calls = record {
 
 pub commit_makes : (old new : Stored) (writer : ℕ) (ops : List Op) → new.log ≡ logged old.log writer ops → new.calls ≡ old.calls + 1 → Makes (meaning_of old) (meaning_of new) (after_commit ops)
 commit_makes old new writer ops log calls = makes old new (after_commit ops) (ap contents_of log ∙ contents_logged old.log writer ops) calls
+
+-- ---- a tick
+with_begins : (h : History) (changes : List Change) → Begins h (with_revision h changes)
+with_begins h [] = ([], sym (append-nil h))
+with_begins h (c ∷ changes) = ((c ∷ changes) ∷ [], refl)
+
+lapsed_begins : (h : History) (leases : List ℕ) → Begins h (all_lapsed h leases)
+lapsed_begins h [] = ([], sym (append-nil h))
+lapsed_begins h (lease ∷ leases) =
+    let first = with_begins h (deletions (attached_keys h lease)) in
+    let rest = lapsed_begins (lapsed h lease) leases in
+    (first.0 ++ rest.0, rest.1 ∙ ap (λ (l : History). l ++ rest.0) first.1 ∙ append_assoc h first.0 rest.0)
+
+same_history : (old new : Stored) → Begins (history_of old.log) (history_of new.log) → Keeps (meaning_of old) (meaning_of new)
+same_history old new begins = record { history = begins; faults = omega arith; quiet = refl; writable = λ k. refl }
+
+pub tick_keeps : {T E : Type 0} (r : Result T E) (old new : Stored) (seconds : ℕ) → OnOk r (contents_of new.log ≡ after_tick seconds (contents_of old.log)) → OnErr r (new.log ≡ old.log) → Keeps (meaning_of old) (meaning_of new)
+tick_keeps (Ok x) old new seconds contents same =
+    same_history old new (subst (λ (c : Contents). Begins (history_of old.log) c.history) (sym contents) (lapsed_begins (history_of old.log) (let now = contents_of old.log in due_leases (advanced seconds now.leases))))
+tick_keeps (Err e) old new seconds contents same = same_history old new (subst (λ (log : List Entry). Begins (history_of old.log) (history_of log)) (sym same) ([], sym (append-nil (history_of old.log))))
+
+-- ---- a lease kept alive
+same_number : (now n : ℕ) (lease : Lease) (b : Bool) → let moved = cond b (record lease { deadline = deadline_at now lease.seconds }) lease in (moved.number == n) ≡ (lease.number == n)
+same_number now n lease true = refl
+same_number now n lease false = refl
+
+still_live : (now n : ℕ) (live : List Lease) → is_live_lease (map (kept_alive now n) live) n ≡ is_live_lease live n
+still_live now n [] = refl
+still_live now n (x ∷ xs) = ap₂ ◌||◌ (same_number now n x (x.number == n)) (still_live now n xs)
+
+pub keep_live : {T E : Type 0} (r : Result T E) (old new : List Entry) (lease : ℕ) → (let table = leases_of old in OnOk r (is_live_lease table.live lease ≡ true)) → OnOk r (contents_of new ≡ after_keep_alive lease (contents_of old))
+    → (let table = leases_of new in OnOk r (is_live_lease table.live lease ≡ true))
+keep_live (Ok x) old new lease live contents =
+    ap (λ (c : Contents). let table = c.leases in is_live_lease table.live lease) contents ∙ still_live (let table = leases_of old in table.now) lease (let table = leases_of old in table.live) ∙ live
+keep_live (Err e) old new lease live contents = tt

@@ -1,5 +1,5 @@
 -- What the lapse of a lease deletes, and what is live after it.
-use Rattle.std.proofs.Common.{◌≡◌, ◌≢◌, ℕ, ◌+◌, ◌==◌, ◌<◌, List, [], ◌∷◌, ◌++◌, length, filter, Option, None, Some, Bool, true, false, cond, ◌&&◌, ◌||◌, is_some, IsTrue, refl, ap, sym, ◌∙◌, subst, append_assoc, arith, inl, inr}
+use Rattle.std.proofs.Common.{◌≡◌, ℕ, ◌==◌, ◌<◌, List, [], ◌∷◌, ◌++◌, length, filter, Option, None, Some, Bool, true, false, cond, ◌&&◌, ◌||◌, is_some, refl, ap, sym, ◌∙◌, subst, append_assoc, arith, inl, inr}
 use Rattle.std.proofs.lemmas.Bool.Decides.{nat_tests}
 use Rattle.std.proofs.lemmas.List.{append-nil}
 use Rattle.std.proofs.lemmas.List.Kept.{IsStrictlySortedBy-filter}
@@ -7,7 +7,7 @@ use Rattle.std.proofs.lemmas.Map.Lookups.{exact_bytes, btree_set_from_contains}
 use Rattle.std.proofs.lemmas.Map.Views.{any-filter_same}
 use Rattle.std.specs.List.{list_any}
 use Rattle.std.specs.List.Sorted.{IsStrictlySortedBy}
-use Rattle.std.specs.Ordering.{nat_cmp, is_eq}
+use Rattle.std.specs.Ordering.{nat_cmp}
 use Rattle.std.specs.Cmp.{eq_by_cmp_equiv}
 use Rattle.std.specs.Cmp.Lexicographic.{slice_cmp, nat_list_cmp_total}
 use Rattle.std.specs.BTreeMap.{BTreeMap, get, is_at}
@@ -19,7 +19,7 @@ use Rattle.store_api.specs.History.{History, revision, live_at, map_at, with_rev
 use Rattle.store_api.specs.declared.change.Change.{Change}
 use Rattle.store_api.proofs.CallerLemmas.{attached_live, get-map_at, keys_rise}
 use Rattle.memory_store.specs.declared.live.Current.{Current}
-use Rattle.memory_store.specs.Index.{HasKeys, has_key, is_under}
+use Rattle.memory_store.specs.Index.{HasKeys, has_key}
 use Rattle.memory_store.specs.Kept.{IsAfter, IsCurrentIn}
 use Rattle.memory_store.specs.Lapses.{Deletes, Lapses}
 use Rattle.memory_store.proofs.Indexes.{cases}
@@ -109,7 +109,6 @@ keys_without lease leases later index without has gone dropped n k =
 -- ---- the lapse of a lease
 module _ (h : History) (lease : ℕ) (old : Current) (current : IsCurrentIn h old) (without : BTreeMap ℕ (BTreeSet (List ℕ)))
     (gone : (n : ℕ) → get nat_cmp without n ≡ cond (is_at (nat_cmp lease) n) None (get nat_cmp old.attached.keys n)) where
-
   module _ (set : BTreeSet (List ℕ)) (found : get nat_cmp old.attached.keys lease ≡ Some set) where
     set_has : (k : List ℕ) → contains (slice_cmp nat_cmp) set k ≡ is_lease lease (lease_of h k)
     set_has k = ap (λ (o : Option (BTreeSet (List ℕ))). has_key o k) (sym found) ∙ current.keys lease k ∙ ap (is_lease lease) (current.leases k)
@@ -118,7 +117,7 @@ module _ (h : History) (lease : ℕ) (old : Current) (current : IsCurrentIn h ol
     some_lapse mid new changes live_is leases_is keys_is deletes =
         let ks : set.keys ≡ attached_keys h lease = attached_are h lease set deletes.ordered set_has in
         let leases : (k : List ℕ) → get (slice_cmp nat_cmp) new.attached.leases k ≡ lease_after_all k (get (slice_cmp nat_cmp) old.attached.leases k) changes =
-            λ k. deletes.leases k ∙ ap (λ (m : BTreeMap (List ℕ) ℕ). lease_after_all k (get (slice_cmp nat_cmp) m k) changes) leases_is in
+        λ k. deletes.leases k ∙ ap (λ (m : BTreeMap (List ℕ) ℕ). lease_after_all k (get (slice_cmp nat_cmp) m k) changes) leases_is in
         let after : IsAfter changes old new = record {
           live = λ k. deletes.live k ∙ ap (λ (m : BTreeMap (List ℕ) (List ℕ)). after_changes k (get (slice_cmp nat_cmp) m k) changes) live_is;
           leases = leases;
@@ -145,8 +144,8 @@ module _ (h : History) (lease : ℕ) (old : Current) (current : IsCurrentIn h ol
     none_lapse new changes empty live_is leases_is keys_is =
         let no_keys : attached_keys h lease ≡ [] = no_key (keys (map_at h (revision h))) in
         let kept : (k : List ℕ) → get (slice_cmp nat_cmp) new.attached.leases k ≡ cond (is_lease lease (get (slice_cmp nat_cmp) old.attached.leases k)) None (get (slice_cmp nat_cmp) old.attached.leases k) =
-            λ k. ap (λ (m : BTreeMap (List ℕ) ℕ). get (slice_cmp nat_cmp) m k) leases_is
-            ∙ sym (ap (λ (b : Bool). cond b None (get (slice_cmp nat_cmp) old.attached.leases k)) (ap (is_lease lease) (current.leases k) ∙ has_none k)) in
+        λ k. ap (λ (m : BTreeMap (List ℕ) ℕ). get (slice_cmp nat_cmp) m k) leases_is
+        ∙ sym (ap (λ (b : Bool). cond b None (get (slice_cmp nat_cmp) old.attached.leases k)) (ap (is_lease lease) (current.leases k) ∙ has_none k)) in
         record {
           changes_are = empty ∙ sym (ap deletions no_keys);
           current = subst (λ (ks : List (List ℕ)). IsCurrentIn (with_revision h (deletions ks)) new) (sym no_keys) (record {
@@ -173,7 +172,7 @@ pub lapsing_some : (history made : History) (lease : ℕ) (left all : List ℕ) 
     → Lapsing (history ++ (made ++ changes ∷ [])) left history all new
 lapsing_some history made lease left all changes new same lapses some =
     let next : lapsed (history ++ made) lease ≡ history ++ (made ++ changes ∷ []) =
-        ap (with_revision (history ++ made)) (sym lapses.changes_are) ∙ with_some (history ++ made) changes some ∙ append_assoc history made (changes ∷ []) in
+    ap (with_revision (history ++ made)) (sym lapses.changes_are) ∙ with_some (history ++ made) changes some ∙ append_assoc history made (changes ∷ []) in
     record {
       same = ap (λ (h : History). all_lapsed h left) (sym next) ∙ same;
       live = subst (λ (h : History). IsCurrentIn h new) next lapses.current;

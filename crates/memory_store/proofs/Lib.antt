@@ -3,6 +3,7 @@ mod Expiry
 mod Forms
 mod Fronts
 mod Indexes
+mod Keeping
 mod Logs
 mod Sets
 mod Watched

@@ -1,23 +1,20 @@
 -- The finite map of what is live, and the listings of it.
-use Rattle.std.proofs.Common.{◌≡◌, ℕ, zero, suc, List, [], ◌∷◌, map, filter, Option, None, Some, cond, refl, ap, sym, ◌∙◌, Bool, true, false, T, ◌&&◌}
+use Rattle.std.proofs.Common.{◌≡◌, ℕ, List, [], ◌∷◌, map, filter, Option, None, Some, cond, refl, ap, sym, ◌∙◌, Bool, true, false, T, ◌&&◌}
 use Rattle.std.proofs.lemmas.Map.Lookups.{exact_bytes}
 use Rattle.std.specs.Ordering.{nat_cmp, is_eq}
 use Rattle.std.specs.declared.cmp.Ordering.{Ordering}
 use Rattle.std.specs.declared.cmp.Ordering.TheVariants.{Less, Equal, Greater}
 use Rattle.std.specs.Cmp.Lexicographic.{slice_cmp, nat_list_cmp_total}
-use Rattle.std.specs.Cmp.{eq_by_cmp_equiv}
 use Rattle.std.specs.BTreeMap.{BTreeMap, get, is_at}
 use Rattle.std.specs.List.Sorted.{IsStrictlySortedBy}
 use Rattle.std.specs.List.{AllByRecursion}
 use Rattle.std.specs.FinMap as finite
-use Rattle.std.specs.FinMap.{FinMap, same_map, slice_cmp-IsAntisymmetric, nat_cmp-IsAntisymmetric, get-from_sorted, entries-from_sorted, get-retain_keys, get-empty, get-insert, get-remove}
+use Rattle.std.specs.FinMap.{FinMap, same_map, slice_cmp-IsAntisymmetric, nat_cmp-IsAntisymmetric, get-from_sorted, entries-from_sorted, get-retain_keys}
 use Rattle.std.specs.FinMap.Entries.{is_sorted, below_all, find}
 use Rattle.std.specs.Map.{lookup, keys_of}
-use Rattle.store_api.specs.declared.change.Change.{Change}
-use Rattle.store_api.specs.declared.change.Change.TheVariants as change
 use Rattle.store_api.specs.declared.change.Range.{Range}
 use Rattle.store_api.specs.declared.change.Pair.{Pair}
-use Rattle.store_api.specs.History.{History, Pairing, revision, changes_at, live_at, map_at, in_ranges, entry_of, listing_at, after_all, changed_map, after_change, after_changes}
+use Rattle.store_api.specs.History.{History, revision, map_at, in_ranges, entry_of, listing_at}
 use Rattle.store_api.proofs.CallerLemmas.{get-map_at}
 use Rattle.memory_store.specs.Kept.{IsListed, HasLive}
 

@@ -1,9 +1,9 @@
 -- The parts of a history that a watch delivers, one revision after another.
-use Rattle.std.proofs.Common.{◌≡◌, ℕ, zero, suc, ◌+◌, ◌-◌, ◌<◌, ◌≤◌, leb, max, List, [], ◌∷◌, ◌++◌, length, map, filter, Bool, true, false, cond, refl, ap, ap₂, sym, ◌∙◌, append_assoc, arith, ◌⊎◌, inl, inr}
+use Rattle.std.proofs.Common.{◌≡◌, ℕ, zero, suc, ◌+◌, ◌-◌, ◌<◌, ◌≤◌, leb, max, List, [], ◌∷◌, ◌++◌, length, filter, Bool, true, false, cond, refl, ap, ap₂, sym, ◌∙◌, append_assoc, arith, ◌⊎◌, inl, inr}
 use Rattle.std.proofs.lemmas.Bool.{cases_lt, le-leb, lt-leb}
 use Rattle.std.proofs.lemmas.List.{append-nil}
-use Rattle.store_api.specs.Followed.{Part, changed_key, one_part, part_at, parts}
-use Rattle.store_api.specs.History.{History, changes_at}
+use Rattle.store_api.specs.Followed.{Part, one_part, part_at, parts}
+use Rattle.store_api.specs.History.{History}
 use Rattle.store_api.specs.declared.change.Change.{Change}
 
 -- a change that passes, and one that does not

@@ -1,7 +1,7 @@
 -- What every history of a store is like.
 -- Source: etcd's API, KV service (Txn: a key is changed at most once; a revision is of a change) and
 -- Lease service (an expiry deletes live keys).
-use Rattle.std.specs.Prelude.{◌≡◌, ℕ, ◌+◌, ◌<◌, ◌≤◌, List, map, length, All, IsTrue, is_some}
+use Rattle.std.specs.Prelude.{ℕ, ◌+◌, ◌<◌, ◌≤◌, List, map, length, All, IsTrue, is_some}
 use Rattle.std.specs.List.{IsDistinct}
 use Rattle.mesh_base.specs.Order.{same_bytes}
 use Rattle.store_api.specs.Attached.{all_lapsed}

@@ -6,7 +6,6 @@ use Rattle.std.specs.List.Sorted.{IsStrictlySortedBy}
 use Rattle.std.specs.Map.{lookup, keys_of}
 use Rattle.std.specs.BTreeMap.{BTreeMap, get, is_at}
 use Rattle.store_api.specs.Attached.{lease_after_all, lease_of}
-use Rattle.store_api.specs.Contents.{Contents}
 use Rattle.store_api.specs.History.{History, Pairs, revision, live_at, after_changes, in_range, in_ranges, entry_of}
 use Rattle.store_api.specs.Leases.{LeaseTable}
 use Rattle.store_api.specs.declared.change.Change.{Change}

@@ -155,9 +155,9 @@ impl MemoryStore {
         ensures calls { self.new.calls ≡ self.old.calls + 1 }
     {
         self.calls.raise();
-        if self.leases.renew(lease).is_none() {
+        let Some(_) = self.leases.renew(lease) else {
             return Err(StoreFault::NoLease { lease });
-        }
+        };
         self.log.kept_alive(writer, lease);
         Ok(())
     }

@@ -12,5 +12,5 @@ invariant-loop-key l = record {
   changes_are : l.changes.items ++ deletions l.key-iterator ≡ deletions l.fn.keys.keys;
   live : (k : List ℕ) → after_changes k (get (slice_cmp nat_cmp) l.current.live k) (deletions l.key-iterator) ≡ after_changes k (get (slice_cmp nat_cmp) l.fn.current.live k) (deletions l.fn.keys.keys);
   leases : (k : List ℕ) → lease_after_all k (get (slice_cmp nat_cmp) l.current.attached.leases k) (deletions l.key-iterator) ≡ lease_after_all k (get (slice_cmp nat_cmp) l.fn.current.attached.leases k) (deletions l.fn.keys.keys);
-  keys : l.current.attached.keys ≡ l.fn.current.attached.keys
+  keys : l.current.attached.keys ≡ l.fn.current.attached.keys;
 }

@@ -27,7 +27,7 @@ loop-lease-preserved c = λ history current.
           let some : 0 < length c.in_ok-changes.changes.items = (let h = w.if-not-is_empty.true in grind (arith, common_steps, nat_tests)) in
           let one : Made = record { writer = c.args.writer; changes = w.from_vec-changes.result } in
           let pushed : history_in c.if-not-is_empty.made.items ≡ made ++ c.in_ok-changes.changes.items ∷ [] =
-              ap (λ (v : Vec Made Global). history_in v.items) w.made-is ∙ ap history_in w.in_ok-push.ensures.items ∙ history_pushed c.loop-lease.made.items one ∙ ap (λ (cs : List Change). made ++ cs ∷ []) w.from_vec-changes.ensures in
+          ap (λ (v : Vec Made Global). history_in v.items) w.made-is ∙ ap history_in w.in_ok-push.ensures.items ∙ history_pushed c.loop-lease.made.items one ∙ ap (λ (cs : List Change). made ++ cs ∷ []) w.from_vec-changes.ensures in
           subst (λ (h : History). Lapsing (history ++ h) left history all c.lapse.new.current) (sym pushed) (lapsing_some history made lease left all c.in_ok-changes.changes.items c.lapse.new.current same lapses some)
       | else-not-is_empty w ↦
           let none : length c.in_ok-changes.changes.items ≡ 0 = (let h = w.if-not-is_empty.false in grind (arith, common_steps, nat_tests)) in

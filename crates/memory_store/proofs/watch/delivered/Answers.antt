@@ -2,8 +2,8 @@ use Rattle.std.proofs.Common.{◌≡◌, ℕ, ◌+◌, ◌<◌, ◌++◌, ◌∷
 use Rattle.std.proofs.lemmas.Bool.Decides.{nat_tests}
 use Rattle.std.proofs.lemmas.Grind.{common_steps}
 use Rattle.std.proofs.lemmas.List.{map_push}
-use Rattle.store_api.specs.Followed.{Part, changed_key, part_of, part_at, parts}
-use Rattle.store_api.specs.History.{History, changes_at, in_ranges}
+use Rattle.store_api.specs.Followed.{Part, changed_key, part_of, part_at}
+use Rattle.store_api.specs.History.{History, in_ranges}
 use Rattle.store_api.specs.declared.change.Change.{Change}
 use Rattle.store_api.specs.declared.change.Revision.{Revision}
 use Rattle.memory_store.specs.declared.live.Made.{Made}
@@ -21,7 +21,7 @@ loop-place-preserved c =
     let next : c.loop-place.place + 1 + 1 ≡ suc r = omega arith in
     let made : Made = c.index-history-place.result in
     let there : c.in_ok-changes.changes.items ≡ part_at inside h (suc r) =
-        c.in_ok-changes.ensures ∙ ap (filter (λ (x : Change). inside (changed_key x))) (c.as_slice.ensures ∙ sym (changes_here c.args.history.now c.loop-place.place (suc r) made (omega arith) c.index-history-place.is (omega arith))) in
+    c.in_ok-changes.ensures ∙ ap (filter (λ (x : Change). inside (changed_key x))) (c.as_slice.ensures ∙ sym (changes_here c.args.history.now c.loop-place.place (suc r) made (omega arith) c.index-history-place.is (omega arith))) in
     let revisions = c.loop-place.revisions.items in
     record {
       so_far = elim c.if-not-is_empty.branch [
@@ -29,7 +29,7 @@ loop-place-preserved c =
             let some : 0 < length c.in_ok-changes.changes.items = (let h = w.if-not-is_empty.true in grind (arith, common_steps, nat_tests)) in
             let part : Part = record { number = c.loop-place.place + 2; changes = w.from_vec.result } in
             let part_is : part ≡ record { number = c.loop-place.place + 1 + 1; changes = c.in_ok-changes.changes.items } =
-                ap₂ (λ (n : ℕ) (cs : List Change). let x : Part = record { number = n; changes = cs } in x) (omega arith) w.from_vec.ensures in
+            ap₂ (λ (n : ℕ) (cs : List Change). let x : Part = record { number = n; changes = cs } in x) (omega arith) w.from_vec.ensures in
             ap (λ (v : Vec Revision Global). map part_of v.items) w.revisions-is
             ∙ ap (map part_of) w.in_ok-push.ensures.items
             ∙ map_push part_of revisions (record { number = c.loop-place.place + 2; writer = made.writer; changes = w.from_vec.result })

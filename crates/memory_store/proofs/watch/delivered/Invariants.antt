@@ -8,5 +8,5 @@ use Rattle.memory_store.proofs.watch.delivered.Given as goal
 abbrev pub invariant-loop-place : goal.invariant-loop-place
 invariant-loop-place l = record {
   so_far : map part_of l.revisions.items ≡ parts (in_ranges l.ranges.items) (history_in l.history) l.after (l.place + 1);
-  within : l.place + 1 ≤ max (max l.after 1) (max l.upto 1)
+  within : l.place + 1 ≤ max (max l.after 1) (max l.upto 1);
 }

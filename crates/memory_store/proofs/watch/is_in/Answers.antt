@@ -1,7 +1,6 @@
-use Rattle.std.proofs.Common.{List, ℕ, ap, sym, ◌∙◌}
+use Rattle.std.proofs.Common.{ap, sym, ◌∙◌}
 use Rattle.std.specs.Cmp.Lexicographic.{texts_ties}
 use Rattle.store_api.specs.History.{in_range}
-use Rattle.store_api.specs.declared.change.Range.{Range}
 use Rattle.memory_store.proofs.watch.is_in.Goals as goal
 
 pub returns-in-One : goal.returns-in-One

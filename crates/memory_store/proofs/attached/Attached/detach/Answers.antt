@@ -1,6 +1,6 @@
 use Rattle.std.proofs.Common.{sym}
 use Rattle.std.proofs.lemmas.Result.{on_ok_weaker}
-use Rattle.memory_store.proofs.Indexes.{forgotten, none_forgotten}
+use Rattle.memory_store.proofs.Indexes.{forgotten}
 use Rattle.memory_store.proofs.attached.Attached.detach.Goals as goal
 
 pub returns-in-Some-clause-keys : goal.returns-in-Some-clause-keys
