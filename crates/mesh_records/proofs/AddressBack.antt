@@ -1,5 +1,5 @@
 -- An address record that was written is read back.
-use Rattle.std.proofs.Common.{◌≡◌, ℕ, ◌<◌, ◌≤◌, ◌^◌, lit≤, Bool, true, false, List, [], ◌∷◌, Option, None, Some, Result, Ok, Err, cond, option_map, refl, sym, ap, ◌∙◌, arith, nat_lt, length, codes, IfSome}
+use Rattle.std.proofs.Common.{◌≡◌, ℕ, ◌<◌, ◌≤◌, ◌^◌, lit≤, true, false, List, [], ◌∷◌, Option, None, Some, Ok, option_map, refl, sym, ◌∙◌, arith, nat_lt, length, codes, IfSome}
 use Rattle.std.proofs.lemmas.Bool.{lt-ltb}
 use Rattle.serde_json.specs.Data.{Data, string, depth}
 use Rattle.serde_json.specs.Written.{has_float}
@@ -7,9 +7,8 @@ use Rattle.serde_json.specs.Find.{get}
 use Rattle.mesh_text.specs.declared.ip.Ip.{Ip}
 use Rattle.mesh_text.specs.Numbers.{number_of}
 use Rattle.mesh_text.specs.Addresses.{address_of, address_text, ipv4_of, ipv6_of}
-use Rattle.mesh_records.specs.declared.fault.ReadFault.{ReadFault}
 use Rattle.mesh_records.specs.Values.{Address}
-use Rattle.mesh_records.specs.Forms.{optional, some_text, some_address, address, address_or_empty, as_address}
+use Rattle.mesh_records.specs.Forms.{optional, some_text, some_address, address_or_empty}
 use Rattle.mesh_records.specs.Address.{address_record_of}
 use Rattle.mesh_records.specs.Trees.{address_tree, address_string, whole}
 

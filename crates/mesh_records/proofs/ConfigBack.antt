@@ -1,13 +1,9 @@
 -- A config that was written is read back.
-use Rattle.std.proofs.Common.{◌≡◌, ℕ, ◌<◌, ◌^◌, ◌==◌, Bool, true, false, cond, Result, Ok, Err, refl, sym, ap, ◌∙◌, subst, arith, nat_lt, List, codes}
+use Rattle.std.proofs.Common.{◌≡◌, ◌<◌, ◌^◌, ◌==◌, true, false, Ok, refl, arith, nat_lt}
 use Rattle.std.proofs.lemmas.Bool.{lt-ltb, ne_eqb}
-use Rattle.serde_json.specs.Data.{Data}
-use Rattle.mesh_records.specs.declared.fault.ReadFault.{ReadFault}
 use Rattle.mesh_records.specs.Values.{Config}
-use Rattle.mesh_records.specs.Judgement.{◌>>=◌}
-use Rattle.mesh_records.specs.Forms.{whole_below}
 use Rattle.mesh_records.specs.Config.{config_of}
-use Rattle.mesh_records.specs.Trees.{config_tree, whole}
+use Rattle.mesh_records.specs.Trees.{config_tree}
 
 pub config_reads_back : (c : Config) → c.id < 2 ^ 32 → 0 < c.max_connected → c.max_connected < 2 ^ 32 → config_of (config_tree c) ≡ Ok c
 unfolding config_of config_tree

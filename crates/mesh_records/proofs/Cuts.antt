@@ -1,6 +1,5 @@
 -- Cutting a list at the first of a byte.
-use Rattle.std.proofs.Common.{◌≡◌, ℕ, ◌==◌, List, [], ◌∷◌, ◌++◌, Bool, true, false, Option, None, Some, cond, option_map, refl, sym, ◌∙◌, ap, subst, arith, length, ◌<◌}
-use Rattle.std.specs.List.{All, slice_split}
+use Rattle.std.proofs.Common.{◌≡◌, ℕ, ◌==◌, List, [], ◌∷◌, ◌++◌, Bool, true, false, Option, None, Some, cond, option_map, refl, sym, ap, subst, arith, length, ◌<◌}
 use Rattle.std.proofs.lemmas.Bool.{eqb-true}
 use Rattle.std.proofs.lemmas.List.Elements.{All-nil, All-cons, All-head, All-tail}
 use Rattle.mesh_records.specs.Labels.{IsWithout, IsLabel, split_once, has_byte}

@@ -1,7 +1,7 @@
 -- One label at the front of what is left, or none.
-use Rattle.std.proofs.Common.{◌≡◌, ℕ, ◌+◌, ◌-◌, ◌<◌, ◌≤◌, ◌==◌, List, [], ◌∷◌, ◌++◌, Bool, true, false, Option, None, Some, Result, Ok, Err, cond, refl, sym, ◌∙◌, ap, subst, arith, length, take, drop, append_assoc, length-append, nat_lt}
+use Rattle.std.proofs.Common.{◌≡◌, ℕ, ◌+◌, ◌-◌, ◌<◌, ◌≤◌, ◌==◌, List, [], ◌∷◌, ◌++◌, Option, None, Some, Result, Ok, Err, refl, sym, ◌∙◌, ap, arith, length, take, drop, append_assoc, length-append}
 use Rattle.std.specs.List.{slice_split, count_by}
-use Rattle.std.proofs.lemmas.Bool.{eq-eqb, ne_eqb}
+use Rattle.std.proofs.lemmas.Bool.{eq-eqb}
 use Rattle.std.proofs.lemmas.List.{take_rest, drop_at, drop-drop, length-drop}
 use Rattle.std.proofs.lemmas.List.Splits.{slice_split_none, slice_split_at, length-slice_split}
 use Rattle.mesh_records.specs.declared.fault.ReadFault.{ReadFault}
@@ -9,7 +9,7 @@ use Rattle.mesh_records.specs.declared.fault.ReadFault.TheVariants.{Label}
 use Rattle.mesh_records.specs.Values.{LabelText}
 use Rattle.mesh_records.specs.Identity.{identity_of}
 use Rattle.mesh_records.specs.Judgement.{◌>>=◌}
-use Rattle.mesh_records.specs.Labels.{IsWithout, split_once, label_at, label_of, labels_at, end_at}
+use Rattle.mesh_records.specs.Labels.{split_once, label_at, label_of, labels_at}
 use Rattle.mesh_records.proofs.Cuts.{Cuts, both, cuts, uncut}
 use Rattle.mesh_records.proofs.Fronts.{with_front}
 

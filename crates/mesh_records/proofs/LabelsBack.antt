@@ -1,20 +1,19 @@
 -- Labels that were written are read back.
-use Rattle.std.proofs.Common.{◌≡◌, ℕ, ◌+◌, ◌<◌, ◌==◌, ◌&&◌, List, [], ◌∷◌, ◌++◌, Bool, true, false, Option, None, Some, Result, Ok, Err, cond, option_map, option_and_then, refl, sym, ◌∙◌, ap, subst, arith, length, nat_lt, append_assoc, get_or, take, drop, ◌≤◌}
-use Rattle.std.specs.List.{All, slice_split, flat_map, count_by}
+use Rattle.std.proofs.Common.{◌≡◌, ℕ, ◌+◌, ◌<◌, ◌==◌, List, [], ◌∷◌, ◌++◌, Bool, true, false, Option, Some, Result, Ok, cond, option_map, option_and_then, refl, sym, ◌∙◌, ap, subst, arith, length, nat_lt, append_assoc, get_or, take, drop, ◌≤◌}
+use Rattle.std.specs.List.{All, flat_map, count_by}
 use Rattle.std.proofs.lemmas.Bool.{eq-eqb, lt-ltb}
 use Rattle.std.proofs.lemmas.List.Elements.{All-head, All-tail, All-append, All-cons, All-more}
 use Rattle.std.proofs.lemmas.List.{drop_more, take_all}
 use Rattle.std.proofs.lemmas.List.Splits.{slice_split_at, length-slice_split}
 use Rattle.mesh_records.specs.declared.fault.ReadFault.{ReadFault}
-use Rattle.mesh_records.specs.declared.records.IdentityRecord.{IdentityRecord}
 use Rattle.mesh_records.specs.Values.{LabelText}
 use Rattle.mesh_records.specs.Judgement.{◌>>=◌}
 use Rattle.mesh_records.specs.Identity.{identity_of}
 use Rattle.mesh_records.specs.Labels.{IsWithout, IsLabel, label_text, split_once, has_byte, label_of, label_of_parts, label_at, labels_at}
 use Rattle.mesh_records.proofs.Cuts.{both}
-use Rattle.mesh_records.proofs.LabelSteps.{parts_of, label_then, labels_more}
+use Rattle.mesh_records.proofs.LabelSteps.{parts_of, labels_more}
 
-split_there : (b : ℕ) (p q : List ℕ) → IsWithout b p → split_once b (p ++ b ∷ q) ≡ both p q
+pub split_there : (b : ℕ) (p q : List ℕ) → IsWithout b p → split_once b (p ++ b ∷ q) ≡ both p q
 split_there b [] q h = ap (λ (c : Bool). cond c (both [] q) (option_map (λ (r : List ℕ × List ℕ). (b ∷ r.0, r.1)) (split_once b q))) (eq-eqb b b refl)
 split_there b (x ∷ xs) q h =
     ap (λ (c : Bool). cond c (both [] (xs ++ b ∷ q)) (option_map (λ (r : List ℕ × List ℕ). (x ∷ r.0, r.1)) (split_once b (xs ++ b ∷ q)))) (All-head (λ (y : ℕ). (y == b) ≡ false) x xs h)
@@ -27,7 +26,7 @@ not_there b (x ∷ xs) h =
     ∙ not_there b xs (All-tail (λ (y : ℕ). (y == b) ≡ false) x xs h)
 
 -- a label's text without its ';'
-abbrev front_of : LabelText → List ℕ
+abbrev pub front_of : LabelText → List ℕ
 front_of l = l.source ++ 58 ∷ (l.key ++ 61 ∷ l.value)
 
 parts_read : (source key value : List ℕ) → 0 < length source → 0 < length key → has_byte 61 source ≡ false
@@ -37,7 +36,7 @@ parts_read source key value s k e =
     let second : nat_lt 0 (length key) ≡ true = lt-ltb 0 (length key) k in
     rw (first, second, e) refl
 
-front_read : (l : LabelText) → IsLabel l → label_of (front_of l) ≡ Some l
+pub front_read : (l : LabelText) → IsLabel l → label_of (front_of l) ≡ Some l
 unfolding label_of
 front_read l is =
     let colon : split_once 58 (front_of l) ≡ both l.source (l.key ++ 61 ∷ l.value) = split_there 58 l.source (l.key ++ 61 ∷ l.value) is.1 in
@@ -46,14 +45,14 @@ front_read l is =
     ∙ ap (option_and_then (label_of_parts l.source)) equals
     ∙ parts_read l.source l.key l.value is.0 is.4 (not_there 61 l.source is.2)
 
-front_ends : (l : LabelText) → IsLabel l → IsWithout 59 (front_of l)
+pub front_ends : (l : LabelText) → IsLabel l → IsWithout 59 (front_of l)
 front_ends l is =
     All-append (λ (y : ℕ). (y == 59) ≡ false) l.source (58 ∷ (l.key ++ 61 ∷ l.value)) is.3
     (All-cons (λ (y : ℕ). (y == 59) ≡ false) 58 (l.key ++ 61 ∷ l.value) refl
     (All-append (λ (y : ℕ). (y == 59) ≡ false) l.key (61 ∷ l.value) is.6
     (All-cons (λ (y : ℕ). (y == 59) ≡ false) 61 l.value refl is.7)))
 
-text_parts : (l : LabelText) (rest : List ℕ) → label_text l ++ rest ≡ front_of l ++ 59 ∷ rest
+pub text_parts : (l : LabelText) (rest : List ℕ) → label_text l ++ rest ≡ front_of l ++ 59 ∷ rest
 text_parts l rest =
     append_assoc l.source (58 ∷ (l.key ++ (61 ∷ (l.value ++ 59 ∷ [])))) rest
     ∙ ap (λ (t : List ℕ). l.source ++ 58 ∷ t) (append_assoc l.key (61 ∷ (l.value ++ 59 ∷ [])) rest
@@ -61,7 +60,7 @@ text_parts l rest =
     ∙ sym (append_assoc l.source (58 ∷ (l.key ++ 61 ∷ l.value)) (59 ∷ rest)
     ∙ ap (λ (t : List ℕ). l.source ++ 58 ∷ t) (append_assoc l.key (61 ∷ l.value) (59 ∷ rest)))
 
-labels_read : (at : ℕ) (labels : List LabelText) → All IsLabel labels → labels_at at (parts_of (flat_map label_text labels)) ≡ Ok labels
+pub labels_read : (at : ℕ) (labels : List LabelText) → All IsLabel labels → labels_at at (parts_of (flat_map label_text labels)) ≡ Ok labels
 labels_read at [] h = refl
 labels_read at (l ∷ ls) h =
     let is : IsLabel l = All-head IsLabel l ls h in

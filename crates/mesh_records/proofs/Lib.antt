@@ -1,8 +1,16 @@
+pub mod AddressAscii
 pub mod AddressBack
 pub mod ConfigBack
+pub mod Depths
+pub mod NodeBack
 pub mod Cuts
 pub mod Fronts
+pub mod LabelGrammar
 pub mod LabelSteps
 pub mod LabelsBack
 pub mod Orders
+pub mod PortsBack
+pub mod AddressGroups
+pub mod AddressesBack
+pub mod ServiceBack
 pub mod Written

@@ -1,5 +1,5 @@
 -- The ports of each address in order make backends in order.
-use Rattle.std.proofs.Common.{◌≡◌, ℕ, List, [], ◌∷◌, ◌++◌, map, Option, Result, Ok, Err, Ordering, Less, Equal, Greater, Global, String, string_bytes, string_cmp, nat_cmp, refl, sym, ◌∙◌, ap, subst, codes, ◌^◌}
+use Rattle.std.proofs.Common.{◌≡◌, ℕ, List, [], ◌∷◌, ◌++◌, map, Option, Result, Ok, Err, Ordering, Less, Equal, Greater, Global, String, string_bytes, string_cmp, nat_cmp, refl, sym, ◌∙◌, ap, subst, codes}
 use mathlib.Core.Path.{fun_ext}
 use Rattle.std.specs.List.{AllByRecursion, flat_map}
 use Rattle.std.specs.List.Sorted.{IsStrictlySortedBy}
@@ -133,7 +133,7 @@ groups_put (e ∷ es) ip ports h is = group_put es ip ports e (ip_cmp ip e.0) re
 
 -- ---- one address behind the other
 
-tied_ip : (ip : Ip) → ip_cmp ip ip ≡ Equal
+pub tied_ip : (ip : Ip) → ip_cmp ip ip ≡ Equal
 tied_ip (V4 a) = tied_itself nat_cmp_total a
 tied_ip (V6 a) = tied_itself nat_cmp_total a
 
@@ -150,7 +150,7 @@ unfolding IsStrictlySortedBy
 group_in_order ip [] h = tt
 group_in_order ip (b ∷ bs) h = (ports_before ip b bs h.0.0 h.0.1 h.1.0, group_in_order ip bs (h.0.1, h.1.1))
 
-append_all : (P : BackendPort → Type 0) (xs ys : List BackendPort) → AllByRecursion P xs → AllByRecursion P ys → AllByRecursion P (xs ++ ys)
+pub append_all : (P : BackendPort → Type 0) (xs ys : List BackendPort) → AllByRecursion P xs → AllByRecursion P ys → AllByRecursion P (xs ++ ys)
 append_all P [] ys h k = k
 append_all P (x ∷ xs) ys h k = (h.0, append_all P xs ys h.1 k)
 
@@ -167,7 +167,7 @@ before_group ip b other (p ∷ ps) here less ips =
     let below : ip_cmp b.ip p.ip ≡ Less = ap (λ (a : Ip). ip_cmp a p.ip) here ∙ ap (ip_cmp ip) ips.0 ∙ less in
     (ap (λ (o : Ordering). ordering_then o (slice_cmp nat_cmp b.port_name p.port_name)) below, before_group ip b other ps here less ips.1)
 
-abbrev all_ports : List Group → List BackendPort
+abbrev pub all_ports : List Group → List BackendPort
 all_ports es = flat_map (λ (a : Group). a.1) es
 
 before_groups : (ip : Ip) (b : BackendPort) (es : List Group) → b.ip ≡ ip → AllByRecursion (λ (y : Ip). ip_cmp ip y ≡ Less) (keys_of es) → AllByRecursion IsGroup es

@@ -1,5 +1,5 @@
 -- The fields of an address (after Cilium's IP identities in the kvstore).
-use Rattle.std.specs.Prelude.{ℕ, ◌^◌, codes, None, Result, Ok}
+use Rattle.std.specs.Prelude.{◌^◌, codes, None, Result, Ok}
 use Rattle.serde_json.specs.Data.{Data}
 use Rattle.serde_json.specs.Find.{get}
 use Rattle.mesh_records.specs.declared.fault.ReadFault.{ReadFault}

@@ -1,5 +1,5 @@
 -- The fields of a cluster's config (after Cilium's cluster config in the kvstore).
-use Rattle.std.specs.Prelude.{ℕ, ◌^◌, ◌==◌, false, codes, Option, None, Result, Ok, if◌then◌else◌}
+use Rattle.std.specs.Prelude.{◌^◌, ◌==◌, false, codes, None, Result, Ok, if◌then◌else◌}
 use Rattle.serde_json.specs.Data.{Data}
 use Rattle.serde_json.specs.Find.{get}
 use Rattle.mesh_records.specs.declared.fault.ReadFault.{ReadFault}

@@ -1,6 +1,6 @@
 -- The labels of an identity: each is a source, ':', a key, '=', a value and ';', with nothing between two labels.
 use Rattle.std.specs.Prelude.{◌≡◌, ℕ, ◌+◌, ◌<◌, ◌==◌, ◌&&◌, List, [], ◌∷◌, ◌++◌, length, Bool, true, false, Option, None, Some, Result, Ok, Err, option_map, option_and_then, nat_lt, if◌then◌else◌}
-use Rattle.std.specs.List.{All, slice_split}
+use Rattle.std.specs.List.{All, flat_map}
 use Rattle.mesh_records.specs.declared.fault.ReadFault.{ReadFault}
 use Rattle.mesh_records.specs.declared.fault.ReadFault.TheVariants.{Label}
 use Rattle.mesh_records.specs.Values.{LabelText}
@@ -17,6 +17,19 @@ IsLabel l = (0 < length l.source) × IsWithout 58 l.source × IsWithout 61 l.sou
 
 abbrev pub label_text : LabelText → List ℕ
 label_text l = l.source ++ (58 ∷ (l.key ++ (61 ∷ (l.value ++ 59 ∷ []))))
+
+-- the bytes are the texts of these labels, one behind the other
+abbrev pub AreTextsOf : List LabelText → List ℕ → Type 0
+AreTextsOf labels bytes = All IsLabel labels × (bytes ≡ flat_map label_text labels)
+
+-- something stands here, and no label's text begins it
+abbrev pub BeginsNoLabel : List ℕ → Type 0
+BeginsNoLabel bytes = (0 < length bytes) × ((l : LabelText) (rest : List ℕ) → IsLabel l → ¬ (bytes ≡ label_text l ++ rest))
+
+-- labels stand before this place, and none begins at it
+abbrev pub IsUnreadableAt : List ℕ → ℕ → Type 0
+IsUnreadableAt bytes at = (labels : List LabelText) × (rest : List ℕ) × All IsLabel labels × (bytes ≡ flat_map label_text labels ++ rest)
+    × (at ≡ length (flat_map label_text labels)) × BeginsNoLabel rest
 
 -- what stands before the first such byte, and what behind it
 abbrev pub split_once : ℕ → List ℕ → Option (List ℕ × List ℕ)

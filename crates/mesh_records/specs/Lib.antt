@@ -6,7 +6,9 @@ pub mod Node
 pub mod Address
 pub mod Labels
 pub mod Identity
+pub mod Laws
 pub mod Backends
 pub mod Service
 pub mod Record
 pub mod Trees
+pub mod Written

@@ -1,5 +1,5 @@
 -- The fields of a node (after Cilium's nodes in the kvstore).
-use Rattle.std.specs.Prelude.{ℕ, ◌^◌, List, [], codes, Result, Ok, Err, is_some, if◌then◌else◌}
+use Rattle.std.specs.Prelude.{ℕ, ◌^◌, List, [], codes, Result, Ok}
 use Rattle.serde_json.specs.Data.{Data}
 use Rattle.serde_json.specs.Find.{get}
 use Rattle.mesh_text.specs.declared.ip.Ip.{Ip}

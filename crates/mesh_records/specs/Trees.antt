@@ -1,11 +1,13 @@
 -- What is written for a record: its JSON tree, with the members in byte order and absent fields left out.
-use Rattle.std.specs.Prelude.{ℕ, List, codes, map, Option, None, Some, option_map}
-use Rattle.serde_json.specs.Data.{Data, boolean, number, unsigned, string, array, object, Items, Members, no_members, member, put}
+use Rattle.std.specs.Prelude.{ℕ, suc, List, [], ◌∷◌, codes, map, Option, None, Some, option_map, if◌then◌else◌}
+use Rattle.std.specs.Ordering.{is_eq}
+use Rattle.serde_json.specs.Data.{Data, boolean, number, unsigned, string, array, object, Members, no_members, member, put}
 use Rattle.serde_json.specs.View.{items_of}
 use Rattle.mesh_text.specs.declared.ip.Ip.{Ip}
 use Rattle.mesh_text.specs.Addresses.{address_text}
 use Rattle.mesh_records.specs.declared.records.Node.{Node}
-use Rattle.mesh_records.specs.Values.{Config, Address}
+use Rattle.mesh_text.specs.Laws.{ip_cmp}
+use Rattle.mesh_records.specs.Values.{Config, Address, BackendPort, Service}
 
 abbrev pub whole : ℕ → Data
 whole n = number (unsigned n)
@@ -46,3 +48,47 @@ address_tree a = object
     (put (codes "IP") (address_string a.ip)
     (put_some (codes "K8sNamespace") (option_map string a.namespace)
     (put_some (codes "K8sPodName") (option_map string a.pod) no_members)))))
+
+-- the members, with more put among them, each at its name's place in byte order
+abbrev pub put_all : Members → List (List ℕ × Data) → Members
+put_all members [] = members
+put_all members (m ∷ more) = put_all (put m.0 m.1 members) more
+
+abbrev pub object_of : List (List ℕ × Data) → Data
+object_of members = object (put_all no_members members)
+
+-- a port has its number and its protocol
+abbrev pub port_tree : BackendPort → Data
+port_tree b = object
+    (member (codes "Port") (whole b.port)
+    (member (codes "Protocol") (string b.protocol) no_members))
+
+abbrev pub named_port : BackendPort → List ℕ × Data
+named_port b = (b.port_name, port_tree b)
+
+-- the backends of each address, where those of one address stand together
+abbrev pub with_backend : BackendPort → List (Ip × List BackendPort) → List (Ip × List BackendPort)
+with_backend b [] = (b.ip, b ∷ []) ∷ []
+with_backend b (a ∷ others) = if is_eq (ip_cmp b.ip a.0) then (a.0, b ∷ a.1) ∷ others else (b.ip, b ∷ []) ∷ a ∷ others
+
+abbrev pub by_address : List BackendPort → List (Ip × List BackendPort)
+by_address [] = []
+by_address (b ∷ backends) = with_backend b (by_address backends)
+
+-- how many backends at the front are of this address
+abbrev pub same_address : Ip → List BackendPort → ℕ
+same_address ip [] = 0
+same_address ip (b ∷ backends) = if is_eq (ip_cmp b.ip ip) then suc (same_address ip backends) else 0
+
+-- an address has a member for each of its ports
+abbrev pub ports_under_address : Ip × List BackendPort → List ℕ × Data
+ports_under_address a = (address_text a.0, object_of (map named_port a.1))
+
+unfoldable pub service_tree : Service → Data
+service_tree s = object
+    (member (codes "backends") (object_of (map ports_under_address (by_address s.backends)))
+    (member (codes "cluster") (string s.cluster)
+    (member (codes "clusterID") (whole s.cluster_id)
+    (member (codes "name") (string s.name)
+    (member (codes "namespace") (string s.namespace)
+    (member (codes "shared") (boolean s.shared) no_members))))))

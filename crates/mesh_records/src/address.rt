@@ -28,7 +28,7 @@ fn address_fields(alloc: Global, value: &Value) -> Result<AddressRecord, ReadFau
     })
 }
 
-pub fn read_address_record(alloc: Global, bytes: &[u8]) -> Result<AddressRecord, ReadFault>
+pub(crate) fn read_address_record(alloc: Global, bytes: &[u8]) -> Result<AddressRecord, ReadFault>
     ensures { Gives result (judged address_record_of bytes.now) }
 {
     let value = read_tree(alloc, bytes)?;

@@ -58,7 +58,7 @@ fn read_label(alloc: Global, text: &[u8]) -> Result<Option<Label>, Memory>
 
 /// Reads the labels of an identity, with the place where the first of them begins that is none.
 #[tactic(auto, unfolding(crate::specs::Identity::identity_of))]
-pub fn read_identity(alloc: Global, bytes: &[u8]) -> Result<IdentityRecord, ReadFault>
+pub(crate) fn read_identity(alloc: Global, bytes: &[u8]) -> Result<IdentityRecord, ReadFault>
     ensures { Gives result (identity_of bytes.now) }
 {
     let mut labels = Vec::new(alloc);

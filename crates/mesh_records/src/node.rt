@@ -75,7 +75,7 @@ fn node_fields(alloc: Global, value: &Value) -> Result<Node, ReadFault>
 }
 
 /// Reads a node, with the first fault of its fields where it has one.
-pub fn read_node(alloc: Global, bytes: &[u8]) -> Result<Node, ReadFault>
+pub(crate) fn read_node(alloc: Global, bytes: &[u8]) -> Result<Node, ReadFault>
     ensures { Gives result (judged node_of bytes.now) }
 {
     let value = read_tree(alloc, bytes)?;

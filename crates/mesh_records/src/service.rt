@@ -156,7 +156,7 @@ fn service_fields(alloc: Global, value: &Value) -> Result<ServiceRecord, ReadFau
 /// Reads a service, with the first fault of its fields where it has one.
 ///
 /// Its backends come in order of address and port name, whatever their order in the value.
-pub fn read_service(alloc: Global, bytes: &[u8]) -> Result<ServiceRecord, ReadFault>
+pub(crate) fn read_service(alloc: Global, bytes: &[u8]) -> Result<ServiceRecord, ReadFault>
     ensures { Gives result (judged service_of bytes.now) }
 {
     let value = read_tree(alloc, bytes)?;

@@ -1,4 +1,4 @@
-use crate::{ReadFault, Record, read_config, read_record, write_config};
+use crate::{ReadFault, Record, read_config, read_record, write_config, write_record};
 use mesh_text::Kind;
 use std::alloc::{AllocError, Global};
 use std::test::Fail;
@@ -51,6 +51,15 @@ fn a_node_is_refused_with_its_first_fault(rt: HostRuntime) -> Result<(), Fail> {
         ("[]", "shape"),
         ("{}", "missing Name"),
         ("{\"Name\":null,\"Cluster\":1}", "type Name"),
+        ("{\"Name\":\"n1\",\"Cluster\":null}", "type Cluster"),
+        (
+            "{\"Name\":\"n1\",\"Cluster\":\"east\",\"ClusterID\":null}",
+            "type ClusterID",
+        ),
+        (
+            "{\"\\u004eame\":\"n1\",\"Cluster\":\"east\",\"ClusterID\":1}",
+            "ok",
+        ),
         ("{\"Name\":\"n1\",\"ClusterID\":-1}", "missing Cluster"),
         ("{\"Name\":\"n1\",\"Cluster\":2}", "type Cluster"),
         (
@@ -129,6 +138,8 @@ fn an_address_is_refused_with_its_first_fault(rt: HostRuntime) -> Result<(), Fai
             "ok",
         ),
         ("{\"ID\":1}", "missing IP"),
+        ("{\"IP\":null,\"ID\":1}", "type IP"),
+        ("{\"IP\":167772161,\"ID\":1}", "type IP"),
         ("{\"IP\":\"10.0.0\",\"Mask\":\"/8\"}", "address IP"),
         ("{\"IP\":\"10.0.0.1\",\"Mask\":\"/8\",\"HostIP\":3}", "mask"),
         ("{\"IP\":\"10.0.0.1\",\"HostIP\":3}", "type HostIP"),
@@ -138,6 +149,7 @@ fn an_address_is_refused_with_its_first_fault(rt: HostRuntime) -> Result<(), Fai
         ),
         ("{\"IP\":\"10.0.0.1\"}", "missing ID"),
         ("{\"IP\":\"10.0.0.1\",\"ID\":null}", "type ID"),
+        ("{\"IP\":\"10.0.0.1\",\"ID\":4294967296}", "range ID"),
         (
             "{\"IP\":\"10.0.0.1\",\"ID\":1,\"K8sNamespace\":[]}",
             "type K8sNamespace",
@@ -166,6 +178,28 @@ fn a_service_is_refused_with_its_first_fault(rt: HostRuntime) -> Result<(), Fail
             "ok",
         ),
         ("{\"clusterID\":\"1\"}", "missing cluster"),
+        ("{\"cluster\":null}", "type cluster"),
+        ("{\"cluster\":\"east\"}", "missing namespace"),
+        (
+            "{\"cluster\":\"east\",\"namespace\":null}",
+            "type namespace",
+        ),
+        (
+            "{\"cluster\":\"east\",\"namespace\":\"shop\",\"name\":null}",
+            "type name",
+        ),
+        (
+            "{\"cluster\":\"east\",\"namespace\":\"shop\",\"name\":\"web\"}",
+            "missing clusterID",
+        ),
+        (
+            "{\"cluster\":\"east\",\"namespace\":\"shop\",\"name\":\"web\",\"clusterID\":null}",
+            "type clusterID",
+        ),
+        (
+            "{\"cluster\":\"east\",\"namespace\":\"shop\",\"name\":\"web\",\"clusterID\":4294967296,\"backends\":1}",
+            "range clusterID",
+        ),
         ("{\"cluster\":\"east\",\"namespace\":1}", "type namespace"),
         (
             "{\"cluster\":\"east\",\"namespace\":\"shop\"}",
@@ -193,6 +227,10 @@ fn backends_are_refused_with_their_first_fault(rt: HostRuntime) -> Result<(), Fa
         ("[]", "type backends"),
         ("{\"b\":{},\"a\":3}", "address backends"),
         ("{\"10.0.0.1\":{},\"10.0.0.1/8\":3}", "address backends"),
+        ("null", "ok"),
+        ("{\"10.0.0.1\":3,\"10.0.0.1\":{}}", "ok"),
+        ("{\"10.0.0.1\":null}", "type backends"),
+        ("{\"10.0.0.1\":{\"http\":null}}", "type backends"),
         ("{\"0:0:0:0:0:0:0:1\":{},\"::1\":{}}", "address backends"),
         ("{\"10.0.0.1\":3,\"x\":{}}", "type backends"),
         ("{\"10.0.0.1\":{\"http\":3}}", "type backends"),
@@ -279,27 +317,27 @@ fn labels_are_read_up_to_the_first_that_is_none(rt: HostRuntime) -> Result<(), F
     Ok(())
 }
 
-#[test]
-fn a_config_is_read_with_its_defaults_and_written_whole(rt: HostRuntime) -> Result<(), Fail> {
-    let alloc = rt.alloc();
-    let text = "{\"id\":1,\"capabilities\":{\"syncedCanaries\":true,\"maxConnectedClusters\":0}}";
+fn config_answer(alloc: Global, text: &str) -> Result<String, AllocError> {
     match read_config(alloc, text.as_bytes()) {
-        Ok(config) => {
-            let written = write_config(alloc, &config).ok();
-            let expected =
-                b"{\"capabilities\":{\"cached\":false,\"maxConnectedClusters\":255,\"syncedCanaries\":true},\"id\":1}";
-            assert!(rt; written.is_some_and(|bytes| bytes.as_slice() == expected.as_slice()));
-        }
-        Err(_) => assert!(rt; false),
+        Ok(_) => String::from_str(alloc, "ok"),
+        Err(fault) => fault_word(alloc, &fault),
     }
-    assert!(rt;
-        matches!(
-            read_config(alloc, b"{\"id\":1,\"\xff\":0}"),
-            Err(ReadFault::Json)
-        )
-    );
+}
+
+#[test]
+fn a_config_is_refused_with_its_first_fault(rt: HostRuntime) -> Result<(), Fail> {
     let cases = [
+        ("{\"id\":4294967295}", "ok"),
+        ("{\"id\":1,\"capabilities\":null}", "ok"),
+        (
+            "{\"id\":1,\"capabilities\":{\"syncedCanaries\":null,\"cached\":null,\"maxConnectedClusters\":null}}",
+            "ok",
+        ),
+        ("{\"id\":1,", "json"),
+        ("1", "shape"),
         ("{\"capabilities\":3}", "missing id"),
+        ("{\"id\":null}", "type id"),
+        ("{\"id\":4294967296,\"capabilities\":3}", "range id"),
         ("{\"id\":1,\"capabilities\":3}", "type capabilities"),
         (
             "{\"id\":1,\"capabilities\":{\"cached\":0,\"syncedCanaries\":1}}",
@@ -307,16 +345,155 @@ fn a_config_is_read_with_its_defaults_and_written_whole(rt: HostRuntime) -> Resu
         ),
         ("{\"id\":1,\"capabilities\":{\"cached\":0}}", "type cached"),
         (
+            "{\"id\":1,\"capabilities\":{\"maxConnectedClusters\":\"255\"}}",
+            "type maxConnectedClusters",
+        ),
+        (
             "{\"id\":1,\"capabilities\":{\"maxConnectedClusters\":4294967296}}",
             "range maxConnectedClusters",
         ),
     ];
     for (text, expected) in cases {
-        if let Err(fault) = read_config(alloc, text.as_bytes()) {
-            assert_eq!(rt; fault_word(alloc, &fault)?.as_str(), expected);
-        } else {
-            assert!(rt; false);
+        let alloc = rt.alloc();
+        assert_eq!(rt; config_answer(alloc, text)?.as_str(), expected);
+    }
+    Ok(())
+}
+
+#[test]
+fn a_config_is_read_with_its_defaults_and_written_whole(rt: HostRuntime) -> Result<(), Fail> {
+    let cases = [
+        (
+            "{\"id\":1,\"capabilities\":{\"syncedCanaries\":true,\"maxConnectedClusters\":0}}",
+            "{\"capabilities\":{\"cached\":false,\"maxConnectedClusters\":255,\"syncedCanaries\":true},\"id\":1}",
+        ),
+        (
+            "{\"id\":7}",
+            "{\"capabilities\":{\"cached\":false,\"maxConnectedClusters\":255,\"syncedCanaries\":false},\"id\":7}",
+        ),
+        (
+            "{\"capabilities\":{\"maxConnectedClusters\":511,\"cached\":true},\"id\":0}",
+            "{\"capabilities\":{\"cached\":true,\"maxConnectedClusters\":511,\"syncedCanaries\":false},\"id\":0}",
+        ),
+    ];
+    for (text, expected) in cases {
+        let alloc = rt.alloc();
+        match read_config(alloc, text.as_bytes()) {
+            Ok(config) => {
+                let bytes = write_config(alloc, &config).ok();
+                assert!(rt; bytes.is_some_and(|bytes| bytes.as_slice() == expected.as_bytes()));
+            }
+            Err(_) => assert!(rt; false),
         }
     }
+    Ok(())
+}
+
+/// What is written for the record that the text says.
+fn rewritten(alloc: Global, kind: Kind, text: &str) -> Result<String, AllocError> {
+    let record = match read_record(alloc, kind, text.as_bytes()) {
+        Ok(record) => record,
+        Err(fault) => return fault_word(alloc, &fault),
+    };
+    match write_record(alloc, &record) {
+        Ok(bytes) => match String::from_utf8(bytes) {
+            Ok(text) => Ok(text),
+            Err(_) => String::from_str(alloc, "no text"),
+        },
+        Err(_) => String::from_str(alloc, "memory"),
+    }
+}
+
+#[test]
+fn a_record_is_written_with_its_members_in_byte_order(rt: HostRuntime) -> Result<(), Fail> {
+    let cases = [
+        (
+            Kind::Nodes,
+            "{\"Name\":\"n1\",\"Cluster\":\"east\",\"ClusterID\":1,\"IPAddresses\":[{\"Type\":\"InternalIP\",\"IP\":\"10.0.0.1\"},{\"IP\":\"0:0::01\",\"Type\":\"\"}],\"Key\":3}",
+            "{\"Cluster\":\"east\",\"ClusterID\":1,\"IPAddresses\":[{\"IP\":\"10.0.0.1\",\"Type\":\"InternalIP\"},{\"IP\":\"::1\",\"Type\":\"\"}],\"Name\":\"n1\"}",
+        ),
+        (
+            Kind::Nodes,
+            "{\"Name\":\"a\\\"b\",\"Cluster\":\"\",\"ClusterID\":0}",
+            "{\"Cluster\":\"\",\"ClusterID\":0,\"IPAddresses\":[],\"Name\":\"a\\\"b\"}",
+        ),
+        (
+            Kind::Addresses,
+            "{\"IP\":\"10.0.0.1\",\"Mask\":null,\"HostIP\":\"FD00::1\",\"ID\":65537,\"K8sNamespace\":\"shop\",\"K8sPodName\":\"web\"}",
+            "{\"HostIP\":\"fd00::1\",\"ID\":65537,\"IP\":\"10.0.0.1\",\"K8sNamespace\":\"shop\",\"K8sPodName\":\"web\"}",
+        ),
+        (
+            Kind::Addresses,
+            "{\"IP\":\"::ffff:0:0\",\"HostIP\":\"\",\"ID\":0,\"K8sNamespace\":\"\",\"K8sPodName\":null}",
+            "{\"ID\":0,\"IP\":\"::ffff:0:0\"}",
+        ),
+        (
+            Kind::Services,
+            "{\"cluster\":\"east\",\"namespace\":\"shop\",\"name\":\"web\",\"clusterID\":1,\"backends\":{\"::1\":{\"a\":{\"port\":0,\"protocol\":\"udp\"}},\"10.0.0.9\":{\"b\":{\"Port\":2,\"Protocol\":\"TCP\"},\"a\":{\"Port\":65535,\"Protocol\":\"TCP\"}},\"10.0.0.11\":{},\"10.0.0.10\":{\"\":{\"Port\":4,\"Protocol\":\"TCP\"}}}}",
+            "{\"backends\":{\"10.0.0.10\":{\"\":{\"Port\":4,\"Protocol\":\"TCP\"}},\"10.0.0.9\":{\"a\":{\"Port\":65535,\"Protocol\":\"TCP\"},\"b\":{\"Port\":2,\"Protocol\":\"TCP\"}},\"::1\":{\"a\":{\"Port\":0,\"Protocol\":\"udp\"}}},\"cluster\":\"east\",\"clusterID\":1,\"name\":\"web\",\"namespace\":\"shop\",\"shared\":true}",
+        ),
+        (
+            Kind::Services,
+            "{\"cluster\":\"east\",\"namespace\":\"shop\",\"name\":\"web\",\"clusterID\":4294967295,\"shared\":false}",
+            "{\"backends\":{},\"cluster\":\"east\",\"clusterID\":4294967295,\"name\":\"web\",\"namespace\":\"shop\",\"shared\":false}",
+        ),
+        (
+            Kind::Identities,
+            "k8s:app=web;reserved:host=;",
+            "k8s:app=web;reserved:host=;",
+        ),
+        (Kind::Identities, "", ""),
+    ];
+    for (kind, text, expected) in cases {
+        let alloc = rt.alloc();
+        assert_eq!(rt; rewritten(alloc, kind, text)?.as_str(), expected);
+        assert_eq!(rt; rewritten(alloc, kind, expected)?.as_str(), expected);
+    }
+    Ok(())
+}
+
+/// A config with an unknown member that nests so deep.
+fn nested(alloc: Global, depth: usize) -> Result<String, AllocError> {
+    let mut text = String::from_str(alloc, "{\"id\":1,\"x\":")?;
+    for _place in 0..depth {
+        text.push('[')?;
+    }
+    for _place in 0..depth {
+        text.push(']')?;
+    }
+    text.push('}')?;
+    Ok(text)
+}
+
+#[test]
+fn a_value_nests_up_to_127_deep(rt: HostRuntime) -> Result<(), Fail> {
+    let cases = [(100, "ok"), (126, "ok"), (127, "json"), (200, "json")];
+    for (depth, expected) in cases {
+        let alloc = rt.alloc();
+        let text = nested(alloc, depth)?;
+        assert_eq!(rt; config_answer(alloc, text.as_str())?.as_str(), expected);
+    }
+    Ok(())
+}
+
+#[test]
+fn json_is_utf_8_and_labels_are_bytes(rt: HostRuntime) -> Result<(), Fail> {
+    let alloc = rt.alloc();
+    assert!(rt;
+        matches!(
+            read_config(alloc, b"{\"id\":1,\"\xff\":0}"),
+            Err(ReadFault::Json)
+        )
+    );
+    for kind in [Kind::Nodes, Kind::Services, Kind::Addresses] {
+        let answer = read_record(rt.alloc(), kind, b"{\"IP\":\"\xff\"}");
+        assert!(rt; matches!(answer, Err(ReadFault::Json)));
+    }
+    assert!(rt;
+        matches!(
+            read_record(alloc, Kind::Identities, b"k8s:a=\xff;"),
+            Ok(Record::Identity(_))
+        )
+    );
     Ok(())
 }

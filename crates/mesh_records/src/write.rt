@@ -8,10 +8,17 @@ ghost use Rattle.mesh_records.specs.Identity.{identity_of};
 ghost use Rattle.mesh_records.specs.Judgement.{judged, tree_of};
 ghost use Rattle.mesh_records.specs.Labels.{IsLabel, label_text};
 ghost use Rattle.mesh_records.specs.Address.{address_record_of};
-ghost use Rattle.mesh_records.specs.Trees.{address_tree, config_tree};
+ghost use Rattle.mesh_records.specs.Node.{node_of};
+ghost use Rattle.mesh_records.specs.Record.{record_of};
+ghost use Rattle.mesh_records.specs.Service.{service_of};
+ghost use Rattle.mesh_records.specs.Trees.{address_tree, config_tree, node_tree, service_tree};
+ghost use Rattle.mesh_records.specs.Written.{kind_of, text_of};
 
-use crate::records::{AddressRecord, ClusterConfig, IdentityRecord, Label};
-use crate::trees::address_value;
+use crate::records::{
+    AddressRecord, ClusterConfig, IdentityRecord, Label, Node, Record, ServiceRecord,
+};
+use crate::service_trees::service_value;
+use crate::trees::{address_value, node_value};
 use mesh_base::Memory;
 use serde_json::{Value, json};
 use std::alloc::{AllocError, Global};
@@ -74,8 +81,8 @@ fn labels_text(alloc: Global, labels: &[Label]) -> Result<Vec<u8>, Memory>
     Ok(text)
 }
 
-/// Writes an identity as the text of its labels, which `read_identity` reads back.
-pub fn write_identity(alloc: Global, identity: &IdentityRecord) -> Result<Vec<u8>, Memory>
+/// Writes an identity as the text of its labels.
+fn write_identity(alloc: Global, identity: &IdentityRecord) -> Result<Vec<u8>, Memory>
     ensures text { IfOk result (λ v. v.items ≡ flat_map label_text identity.now.labels) }
     ensures reads_back { IfOk result (λ v. identity_of v.items ≡ Ok identity.now) }
 {
@@ -83,12 +90,49 @@ pub fn write_identity(alloc: Global, identity: &IdentityRecord) -> Result<Vec<u8
     Ok(text)
 }
 
-/// Writes an address record, which reads back; what it does not have is left out.
-pub fn write_address_record(alloc: Global, address: &AddressRecord) -> Result<Vec<u8>, Memory>
+/// Writes an address; what it does not have is left out.
+fn write_address_record(alloc: Global, address: &AddressRecord) -> Result<Vec<u8>, Memory>
     ensures text { IfOk result (λ v. v.items ≡ compact_text (address_tree address.now)) }
     ensures reads_back { IfOk result (λ v. judged address_record_of v.items ≡ Ok address.now) }
 {
     let value = address_value(alloc, address)?;
     let bytes = written(alloc, &value)?;
     Ok(bytes)
+}
+
+/// Writes a node, its addresses in their order.
+fn write_node(alloc: Global, node: &Node) -> Result<Vec<u8>, Memory>
+    ensures text { IfOk result (λ v. v.items ≡ compact_text (node_tree node.now)) }
+    ensures reads_back { IfOk result (λ v. judged node_of v.items ≡ Ok node.now) }
+{
+    let value = node_value(alloc, node)?;
+    let bytes = written(alloc, &value)?;
+    Ok(bytes)
+}
+
+/// Writes a service, its backends under the texts of their addresses and the names of their ports.
+fn write_service(alloc: Global, service: &ServiceRecord) -> Result<Vec<u8>, Memory>
+    ensures text { IfOk result (λ v. v.items ≡ compact_text (service_tree service.now)) }
+    ensures reads_back { IfOk result (λ v. judged service_of v.items ≡ Ok service.now) }
+{
+    let value = service_value(alloc, service)?;
+    let bytes = written(alloc, &value)?;
+    Ok(bytes)
+}
+
+/// Writes a record, which `read_record` reads back.
+///
+/// A node, a service and an address are compact JSON (RFC 8259), the members in byte order of their
+/// names, which are those of Cilium's records in the kvstore; what an address does not have is left
+/// out. An identity is the text of its labels. The one fault is `Memory`.
+pub fn write_record(alloc: Global, value: &Record) -> Result<Vec<u8>, Memory>
+    ensures text { IfOk result (λ v. v.items ≡ text_of value.now) }
+    ensures reads_back { IfOk result (λ v. record_of (kind_of value.now) v.items ≡ Ok value.now) }
+{
+    match value {
+        Record::Node(node) => write_node(alloc, node),
+        Record::Service(service) => write_service(alloc, service),
+        Record::Identity(identity) => write_identity(alloc, identity),
+        Record::Address(address) => write_address_record(alloc, address),
+    }
 }

@@ -7,8 +7,8 @@ ghost use Rattle.store_api.specs.History.{entry_of};
 ghost use Rattle.mesh_replay.specs.Checks as checks;
 ghost use Rattle.mesh_replay.specs.Keys as keys;
 
-use mesh_records::{ClusterConfig, Node, ReadFault, read_config, read_node};
-use mesh_text::{NameFault, PartName};
+use mesh_records::{ClusterConfig, Node, ReadFault, Record, read_config, read_record};
+use mesh_text::{Kind, NameFault, PartName};
 use std::alloc::Global;
 use store_api::{Memory, Pair};
 
@@ -70,8 +70,9 @@ fn node_said(
 ) -> Result<Option<Node>, Memory>
     ensures { IfOk result (λ o. o ≡ checks.fitting_node cluster.now id name.now (judged node_of value.now)) }
 {
-    match read_node(alloc, value) {
-        Ok(node) => Ok(fitting(cluster, id, name, node)),
+    match read_record(alloc, Kind::Nodes, value) {
+        Ok(Record::Node(node)) => Ok(fitting(cluster, id, name, node)),
+        Ok(_other) => Ok(None),
         Err(ReadFault::Memory) => Err(Memory),
         Err(_fault) => Ok(None),
     }

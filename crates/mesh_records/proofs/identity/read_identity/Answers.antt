@@ -1,9 +1,8 @@
-use Rattle.std.proofs.Common.{◌≡◌, ◌-◌, ℕ, List, sym, ap, ◌∙◌, None, inl, drop, take, length}
+use Rattle.std.proofs.Common.{◌≡◌, ◌-◌, sym, ap, ◌∙◌, inl, drop, take, length}
 use Rattle.std.proofs.lemmas.List.{take_rest}
 use Rattle.mesh_records.specs.Labels.{split_once}
 use Rattle.mesh_records.proofs.Cuts.{both, cuts}
 use Rattle.mesh_records.proofs.LabelSteps.{no_end, no_label, unreadable, within, label_joins, from_place, left}
-use Rattle.mesh_records.proofs.Fronts.{with_front}
 use Rattle.mesh_records.proofs.identity.read_identity.Goals as goal
 
 pub returns-in_default : goal.returns-in_default

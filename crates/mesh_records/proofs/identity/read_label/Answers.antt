@@ -1,6 +1,3 @@
-use Rattle.std.proofs.Common.{◌≡◌, List, ℕ, subst, sym}
-use Rattle.mesh_records.specs.Values.{LabelText}
-use Rattle.mesh_records.specs.Labels.{IsLabel}
 use Rattle.mesh_records.proofs.Cuts.{parts_fit}
 use Rattle.mesh_records.proofs.identity.read_label.Goals as goal
 

@@ -1,5 +1,4 @@
 use Rattle.std.specs.List.Sorted.{IsStrictlySortedBy}
-use Rattle.mesh_records.specs.Backends.{AreInOrder}
 use Rattle.mesh_records.proofs.service.optional_backends.Goals as goal
 
 pub returns-in_default-clause-ordered : goal.returns-in_default-clause-ordered

@@ -1,4 +1,4 @@
-use Rattle.std.proofs.Common.{rules, ◌≡◌, List, sym, subst}
+use Rattle.std.proofs.Common.{rules, List, sym, subst}
 use Rattle.std.specs.List.{AllByRecursion}
 use Rattle.mesh_records.proofs.Orders.{Group, IsGroup, groups_put}
 use Rattle.mesh_records.proofs.service.read_addresses.Goals as goal

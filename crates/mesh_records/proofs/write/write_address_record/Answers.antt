@@ -1,8 +1,4 @@
-use Rattle.std.proofs.Common.{◌≡◌, ◌≤◌, ℕ, List, Option, None, Some, Bool, false, refl, lit≤, is_some}
-use Rattle.mesh_text.specs.declared.ip.Ip.{Ip}
-use Rattle.serde_json.specs.Data.{depth}
-use Rattle.serde_json.specs.Written.{has_float}
-use Rattle.mesh_records.specs.Values.{Address}
+use Rattle.std.proofs.Common.{refl}
 use Rattle.mesh_records.specs.Address.{address_record_of}
 use Rattle.mesh_records.specs.Trees.{address_tree}
 use Rattle.mesh_records.proofs.AddressBack.{address_reads_back, no_float, shallow}
