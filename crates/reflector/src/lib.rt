@@ -1,0 +1,13 @@
+//! A reader of a store: it lists its ranges, and then watches what changes in them.
+//!
+//! `turns` has what one turn answers and hands on, `reader` the reader with its cursor.
+//! It knows nothing of what keys and values mean, nor of what became of what it handed on.
+#![tactic(auto)]
+
+mod reader;
+#[cfg(test)]
+mod tests;
+mod turns;
+
+pub use reader::Reflector;
+pub use turns::{Turn, delivery};
