@@ -12,6 +12,8 @@ use Rattle.store_api.specs.History.{Pairing, in_ranges}
 use Rattle.store_api.specs.declared.change.Op.{Op}
 use Rattle.store_api.specs.declared.change.Op.TheVariants as op
 use Rattle.key_paths.specs.declared.hop.Hop.TheVariants.{State}
+use Rattle.key_paths.specs.declared.key.Key.{Key}
+use Rattle.key_paths.specs.declared.key.Key.TheVariants as names
 use Rattle.key_paths.specs.Paths.{kinds, config_key, mark_key, record_ranges}
 use Rattle.mesh_records.specs.Trees.{config_tree}
 use Rattle.mesh_records.specs.Values.{Config}
@@ -143,6 +145,14 @@ next_ops s = ops_of s s.queue
 -- how many items an export of at most so many writes
 abbrev pub turns : ℕ → Export → ℕ
 turns most s = min most (length s.queue)
+
+-- the key is one of a record in the store of this cluster's exporter
+abbrev pub IsExported : List ℕ → Key → Type 0
+IsExported cluster (names.Node hop of node) = (hop ≡ State) × (of ≡ cluster)
+IsExported cluster (names.Service hop of namespace name) = (hop ≡ State) × (of ≡ cluster)
+IsExported cluster (names.Identity cached number) = cached ≡ None
+IsExported cluster (names.Address cached ip) = cached ≡ None
+IsExported cluster _ = ⊥
 
 -- what holds of every exporter: nothing waits where it is stopped, and what is declared are records
 -- of its cluster

@@ -1,12 +1,15 @@
 ghost use Rattle.std.specs.Prelude.{◌≡◌, ◌<◌, ◌≤◌, ◌&&◌, ℕ, List, [], ◌∷◌, length, not, true, is_some, Some, None, Ok, IsTrue, IfOk, IfErr, OnOk, OnErr, IsOk};
 ghost use Rattle.std.specs.FinMap.{get};
 ghost use Rattle.std.specs.List.{list_any};
+ghost use Rattle.key_paths.specs.Keys.{key_bytes};
 ghost use Rattle.key_paths.specs.Paths.{record_ranges};
+ghost use Rattle.mesh_records.specs.Written.{text_of};
+ghost use Rattle.record_check.specs.Reading.{IsOfKind};
 ghost use Rattle.key_paths.specs.declared.hop.Hop.TheVariants.{State};
 ghost use Rattle.store_api.specs.History.{in_ranges};
 ghost use Rattle.store_api.specs.Contents.{after_grant};
 ghost use Rattle.store_api.specs.Meaning.{Keeps, Makes};
-ghost use Rattle.exporter.specs.State.{after_declare, after_item, after_items, after_start, after_stop, after_withdraw, is_record, is_synced, new_export, next_ops, op_of, record_op, turns, waiting};
+ghost use Rattle.exporter.specs.State.{IsExport, IsExported, after_declare, after_item, after_items, after_start, after_stop, after_withdraw, is_record, is_synced, new_export, next_ops, op_of, record_op, turns, waiting};
 ghost use Rattle.exporter.specs.Calls.{KeepsLease, Refuses, RefusesKeep, RefusesStart, StopsAt, Writes, WritesAll};
 
 use crate::declared::Declared;
@@ -14,8 +17,9 @@ use crate::fault::ExportFault;
 use crate::item::Item;
 use crate::queue::Queue;
 use crate::texts::{config_key, config_value, place};
-use key_paths::Hop;
+use key_paths::{Hop, Key, write_key};
 use mesh_base::{Bytes, Memory};
+use mesh_records::{Record, write_record};
 use mesh_text::ClusterName;
 use std::alloc::Global;
 use std::marker::Model;
@@ -103,6 +107,41 @@ impl Exporter {
         ensures { result ≡ length self.now.queue }
     {
         self.queue.len() as u64
+    }
+
+    /// Declares the record under its key, in place of what was declared there before.
+    ///
+    /// Where the exporter runs, the key waits to be written; one that waits already keeps its place,
+    /// and the last declared value is written. Logarithmic in the declared records and in those that
+    /// wait. After `Memory` nothing changed.
+    pub fn declare(&mut self, key: &Key, value: &Record) -> Result<(), Memory>
+        requires kind { IsOfKind key.now value.now }
+        requires exported { IsExported self.old.cluster key.now }
+        ensures declared { OnOk result (self.new ≡ after_declare (key_bytes key.now) (text_of value.now) self.old) }
+        ensures refused { OnErr result (self.new ≡ self.old) }
+    {
+        let key = Bytes::from_vec(write_key(self.alloc, key)?);
+        let value = Bytes::from_vec(write_record(self.alloc, value)?);
+        self.declare_bytes(key, value)
+    }
+
+    /// Withdraws the record under the key; where none is declared nothing changes.
+    ///
+    /// Where the exporter runs, the key waits to be deleted from the store, and one that waits
+    /// already keeps its place. After `Memory` nothing changed. Costs what `declare` costs.
+    pub fn withdraw(&mut self, key: &Key) -> Result<(), Memory>
+        ensures withdrawn { OnOk result (self.new ≡ after_withdraw (key_bytes key.now) self.old) }
+        ensures refused { OnErr result (self.new ≡ self.old) }
+    {
+        let key = Bytes::from_vec(write_key(self.alloc, key)?);
+        self.withdraw_bytes(&key)
+    }
+
+    /// Nothing waits where it is stopped, and what is declared are records of its cluster.
+    pub fn is_export(&self)
+        ensures { IsExport self.now }
+    {
+        let _ = &self.queue;
     }
 
     /// Grants a lease, and puts everything in the queue: the config, the declared records in byte

@@ -14,8 +14,12 @@ mod declared;
 mod exporter;
 mod fault;
 mod item;
+mod laws;
 mod queue;
+#[cfg(test)]
+mod tests;
 mod texts;
 
 pub use exporter::{Exported, Exporter};
 pub use fault::ExportFault;
+pub use laws::marks_come_last;
