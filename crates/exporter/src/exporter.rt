@@ -209,10 +209,7 @@ impl Exporter {
                 self.finish_item();
                 Ok(())
             }
-            Err(StoreFault::NoLease { lease }) => {
-                self.stop();
-                Err(ExportFault::NoLease { lease })
-            }
+            Err(StoreFault::NoLease { lease }) => Err(self.lose_lease(lease)),
             Err(StoreFault::Lost) => Err(ExportFault::Lost),
             Err(_) => Err(ExportFault::Memory),
         }
@@ -268,12 +265,18 @@ impl Exporter {
         };
         match store.keep_alive(lease) {
             Ok(()) => Ok(()),
-            Err(StoreFault::NoLease { lease: _ }) => {
-                self.stop();
-                Err(ExportFault::NoLease { lease })
-            }
+            Err(StoreFault::NoLease { lease: _ }) => Err(self.lose_lease(lease)),
             Err(_) => Err(ExportFault::Lost),
         }
+    }
+
+    // The lease is not live: nothing is exported any more.
+    fn lose_lease(&mut self, lease: u64) -> ExportFault
+        ensures fault { result ≡ ExportFault.NoLease lease }
+        ensures stopped { self.new ≡ after_stop self.old }
+    {
+        self.stop();
+        ExportFault::NoLease { lease }
     }
 
     // The item in front was written.

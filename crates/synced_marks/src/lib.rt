@@ -6,6 +6,8 @@
 
 mod keys;
 mod synced;
+#[cfg(test)]
+mod tests;
 
 pub use keys::{cut_key, cut_value, mark_key, read_cut};
 pub use synced::is_synced;
