@@ -5,3 +5,4 @@ pub mod Keys
 pub mod Marks
 pub mod Histories
 pub mod Exports
+pub mod Exact

@@ -35,4 +35,4 @@ mod texts;
 
 pub use exporter::{Exported, Exporter};
 pub use fault::ExportFault;
-pub use laws::marks_come_last;
+pub use laws::{exports_exactly, marks_come_last};
