@@ -31,7 +31,13 @@ use Rattle.exporter.proofs.Histories.{live_now, live_with, lease_with, lease_for
 -- an exporter that runs under a lease, but for its name and number
 abbrev core : Export → ℕ → Pairing → List Item → List Bool → Export
 core s lease declared queue marked = record {
-  cluster = s.cluster; number = s.number; seconds = s.seconds; declared = declared; queue = queue; lease = Some lease; marked = marked;
+  cluster = s.cluster;
+  number = s.number;
+  seconds = s.seconds;
+  declared = declared;
+  queue = queue;
+  lease = Some lease;
+  marked = marked;
 }
 
 -- an item with this key waits
@@ -211,12 +217,16 @@ module _ (s : Export) (lease : ℕ) (own : Pairing) where
     records = records;
     fits = fit_with_key key queue holds.fits inside;
     claims = λ k none. (let both : (waits s.cluster k queue ≡ false) × (same_bytes key k ≡ false) = waits_key s.cluster key k queue none in
-      subst (λ (o : Option (List ℕ)). Claims (contains_key own k) o lease (lease_of h k) (live_now h k)) (sym (same k both.1)) (holds.claims k both.0));
+        subst (λ (o : Option (List ℕ)). Claims (contains_key own k) o lease (lease_of h k) (live_now h k)) (sym (same k both.1)) (holds.claims k both.0));
   }
 
   declares : (key v : List ℕ) (declared : Pairing) (queue : List Item) (marked : List Bool) (h : History) → Holds declared queue h → IsInside s.cluster key → Reaches (after_step (Declares key v) (at declared queue marked h))
   declares key v declared queue marked h holds inside = record {
-    declared = insert declared key v; queue = with_key key queue; marked = marked; history = h; is = refl;
+    declared = insert declared key v;
+    queue = with_key key queue;
+    marked = marked;
+    history = h;
+    is = refl;
     holds = holds_waiting declared (insert declared key v) key queue h holds inside (set_as declared (insert declared key v) key v (λ (k : List ℕ). in_ranges (record_ranges s.cluster State) k) refl inside holds.records) (now_set declared key v);
   }
 
@@ -224,7 +234,11 @@ module _ (s : Export) (lease : ℕ) (own : Pairing) where
   withdraws key declared queue marked h holds =
       elim (contains_key declared key) as (λ b. contains_key declared key ≡ b → Reaches (record { exporter = cond b (core s lease (remove declared key) (with_key key queue) marked) (core s lease declared queue marked); history = h })) [
         | true ↦ λ there. record {
-          declared = remove declared key; queue = with_key key queue; marked = marked; history = h; is = refl;
+          declared = remove declared key;
+          queue = with_key key queue;
+          marked = marked;
+          history = h;
+          is = refl;
           holds = holds_waiting declared (remove declared key) key queue h holds (holds.records key there) (removed_as declared (remove declared key) key (λ (k : List ℕ). in_ranges (record_ranges s.cluster State) k) refl holds.records) (now_removed declared key);
         }
         | false ↦ λ _. record { declared = declared; queue = queue; marked = marked; history = h; is = refl; holds = holds }
@@ -270,7 +284,11 @@ module _ (s : Export) (lease : ℕ) (own : Pairing) where
   writes : (declared : Pairing) (queue : List Item) (marked : List Bool) (h : History) → Holds declared queue h → Reaches (after_step Writes (at declared queue marked h))
   writes declared [] marked h holds = record { declared = declared; queue = []; marked = marked; history = h; is = refl; holds = holds }
   writes declared (i ∷ queue) marked h holds = record {
-    declared = declared; queue = queue; marked = marked_by (i ∷ queue) marked; history = committed h (op_of (core s lease declared (i ∷ queue) marked) i ∷ []); is = refl;
+    declared = declared;
+    queue = queue;
+    marked = marked_by (i ∷ queue) marked;
+    history = committed h (op_of (core s lease declared (i ∷ queue) marked) i ∷ []);
+    is = refl;
     holds = record {
       records = holds.records;
       fits = holds.fits.1;
@@ -281,7 +299,11 @@ module _ (s : Export) (lease : ℕ) (own : Pairing) where
   loses : (declared : Pairing) (queue : List Item) (marked : List Bool) (h : History) → Holds declared queue h → Reaches (after_step Loses (at declared queue marked h))
   loses declared [] marked h holds = record { declared = declared; queue = []; marked = marked; history = h; is = refl; holds = holds }
   loses declared (i ∷ queue) marked h holds = record {
-    declared = declared; queue = i ∷ queue; marked = marked; history = committed h (op_of (core s lease declared (i ∷ queue) marked) i ∷ []); is = refl;
+    declared = declared;
+    queue = i ∷ queue;
+    marked = marked;
+    history = committed h (op_of (core s lease declared (i ∷ queue) marked) i ∷ []);
+    is = refl;
     holds = record {
       records = holds.records;
       fits = holds.fits;
@@ -291,27 +313,35 @@ module _ (s : Export) (lease : ℕ) (own : Pairing) where
 
   others : (changes : List Change) (declared : Pairing) (queue : List Item) (marked : List Bool) (h : History) → Holds declared queue h → All (IsApart own lease) changes → Reaches (after_step (Others changes) (at declared queue marked h))
   others changes declared queue marked h holds apart = record {
-    declared = declared; queue = queue; marked = marked; history = with_revision h changes; is = refl;
+    declared = declared;
+    queue = queue;
+    marked = marked;
+    history = with_revision h changes;
+    is = refl;
     holds = record {
       records = holds.records;
       fits = holds.fits;
       claims = λ k none.
-        subst (λ (o : Option ℕ). Claims (contains_key own k) (now declared k) lease o (live_now (with_revision h changes) k)) (sym (lease_with h changes k))
-        (subst (λ (o : Option (List ℕ)). Claims (contains_key own k) (now declared k) lease (lease_after_all k (lease_of h k) changes) o) (sym (live_with h changes k))
-        (all_changes own lease k (now declared k) changes (lease_of h k) (live_now h k) apart (holds.claims k none)));
+          subst (λ (o : Option ℕ). Claims (contains_key own k) (now declared k) lease o (live_now (with_revision h changes) k)) (sym (lease_with h changes k))
+          (subst (λ (o : Option (List ℕ)). Claims (contains_key own k) (now declared k) lease (lease_after_all k (lease_of h k) changes) o) (sym (live_with h changes k))
+          (all_changes own lease k (now declared k) changes (lease_of h k) (live_now h k) apart (holds.claims k none)));
     };
   }
 
   lapses : (other : ℕ) (declared : Pairing) (queue : List Item) (marked : List Bool) (h : History) → Holds declared queue h → other ≢ lease → Reaches (after_step (Lapses other) (at declared queue marked h))
   lapses other declared queue marked h holds differ = record {
-    declared = declared; queue = queue; marked = marked; history = lapsed h other; is = refl;
+    declared = declared;
+    queue = queue;
+    marked = marked;
+    history = lapsed h other;
+    is = refl;
     holds = record {
       records = holds.records;
       fits = holds.fits;
       claims = λ k none.
-        subst (λ (o : Option ℕ). Claims (contains_key own k) (now declared k) lease o (live_now (lapsed h other) k)) (sym (lease_with h (deletions (attached_keys h other)) k))
-        (subst (λ (o : Option (List ℕ)). Claims (contains_key own k) (now declared k) lease (lease_after_all k (lease_of h k) (deletions (attached_keys h other))) o) (sym (live_with h (deletions (attached_keys h other)) k))
-        (lapse_claims own lease k (now declared k) h other differ (holds.claims k none)));
+          subst (λ (o : Option ℕ). Claims (contains_key own k) (now declared k) lease o (live_now (lapsed h other) k)) (sym (lease_with h (deletions (attached_keys h other)) k))
+          (subst (λ (o : Option (List ℕ)). Claims (contains_key own k) (now declared k) lease (lease_after_all k (lease_of h k) (deletions (attached_keys h other))) o) (sym (live_with h (deletions (attached_keys h other)) k))
+          (lapse_claims own lease k (now declared k) h other differ (holds.claims k none)));
     };
   }
 
@@ -395,7 +425,7 @@ at_end s lease own r reach same empty =
     let history_is : reach.history ≡ r.history = sym (ap (λ (x : Run). x.history) reach.is) in
     let value : (k : List ℕ) → get (exported r.exporter) k ≡ now s lease own reach.declared k = λ k. ap (λ (x : Run). get (exported x.exporter) k) reach.is ∙ get_exported (core s lease reach.declared reach.queue reach.marked) k in
     let claims : (k : List ℕ) → Claims (contains_key own k) (now s lease own reach.declared k) lease (lease_of r.history k) (live_now r.history k) =
-      λ k. subst (λ (h : History). Claims (contains_key own k) (now s lease own reach.declared k) lease (lease_of h k) (live_now h k)) history_is (reach.holds.claims k (ap (λ (q : List Item). waits s.cluster k q) nothing)) in
+    λ k. subst (λ (h : History). Claims (contains_key own k) (now s lease own reach.declared k) lease (lease_of h k) (live_now h k)) history_is (reach.holds.claims k (ap (λ (q : List Item). waits s.cluster k q) nothing)) in
     same_map nat_list_cmp_total (slice_cmp-IsAntisymmetric nat_cmp-IsAntisymmetric) (attached_pairs r.history lease) (exported r.exporter)
     (λ k. get-retain_keys (map_at r.history (revision r.history)) (λ (key : List ℕ). is_lease lease (lease_of r.history key)) k (λ x tie. ap (λ (key : List ℕ). is_lease lease (lease_of r.history key)) (sym (exact_bytes k x tie)))
     ∙ ap (λ (o : Option (List ℕ)). cond (is_lease lease (lease_of r.history k)) o None) (get-map_at r.history (revision r.history) k)

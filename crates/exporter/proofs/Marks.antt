@@ -53,13 +53,14 @@ pub all_steps : (steps : List Step) (r : Run) → (more : List Item) × (written
 all_steps [] r = ([], sym (append-nil r.exporter.queue))
 all_steps (step ∷ steps) r =
     let here : (more : List Item) × (written_by step r ++ (after_step step r).exporter.queue ≡ r.exporter.queue ++ more) = one_step step r in
-    let later : (more : List Item) × (written steps (after_step step r) ++ (after_steps steps (after_step step r)).exporter.queue ≡ (after_step step r).exporter.queue ++ more) = all_steps steps (after_step step r) in
-    (here.0 ++ later.0,
-     append_assoc (written_by step r) (written steps (after_step step r)) (after_steps steps (after_step step r)).exporter.queue
-     ∙ ap (λ (q : List Item). written_by step r ++ q) later.1
-     ∙ sym (append_assoc (written_by step r) (after_step step r).exporter.queue later.0)
-     ∙ ap (λ (q : List Item). q ++ later.0) here.1
-     ∙ append_assoc r.exporter.queue here.0 later.0)
+    let later : (more : List Item) × (written steps (after_step step r) ++ (after_steps steps (after_step step r)).exporter.queue ≡ (after_step step r).exporter.queue ++ more) = all_steps steps (after_step step r) in (
+      here.0 ++ later.0,
+      append_assoc (written_by step r) (written steps (after_step step r)) (after_steps steps (after_step step r)).exporter.queue
+          ∙ ap (λ (q : List Item). written_by step r ++ q) later.1
+          ∙ sym (append_assoc (written_by step r) (after_step step r).exporter.queue later.0)
+          ∙ ap (λ (q : List Item). q ++ later.0) here.1
+          ∙ append_assoc r.exporter.queue here.0 later.0,
+    )
 
 abbrev is_mark : Item → Bool
 is_mark item.Config = false
@@ -101,6 +102,6 @@ marks_come_last s lease history steps kind rest front key has =
     let grown : (more : List Item) × (written steps r ++ (after_steps steps r).exporter.queue ≡ r.exporter.queue ++ more) = all_steps steps r in
     let records : List Item = item.Config ∷ map record_item (keys s.declared) in
     let is : written steps r ++ item.Mark kind ∷ rest ≡ records ++ (map mark_item kinds ++ grown.0) =
-        sym (ap (λ (q : List Item). written steps r ++ q) front) ∙ grown.1 ∙ append_assoc records (map mark_item kinds) grown.0 in
+    sym (ap (λ (q : List Item). written steps r ++ q) front) ∙ grown.1 ∙ append_assoc records (map mark_item kinds) grown.0 in
     all_written (is_record key) records (written steps r) kind rest (map mark_item kinds ++ grown.0) (no_marks (keys s.declared)) is
     (sym (among key (keys s.declared)) ∙ sym (contains_key-keys s.declared key) ∙ has)

@@ -4,5 +4,11 @@ use Rattle.exporter.specs.State.{Export}
 
 abbrev pub export_of : Inside → Export
 export_of e = record {
-  cluster = e.cluster; number = e.number; seconds = e.seconds; declared = e.declared; queue = e.queue; lease = e.lease; marked = e.marked;
+  cluster = e.cluster;
+  number = e.number;
+  seconds = e.seconds;
+  declared = e.declared;
+  queue = e.queue;
+  lease = e.lease;
+  marked = e.marked;
 }

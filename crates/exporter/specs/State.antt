@@ -42,7 +42,13 @@ unmarked = false ∷ false ∷ false ∷ false ∷ []
 -- an exporter that was never called
 abbrev pub new_export : List ℕ → ℕ → ℕ → Export
 new_export cluster number seconds = record {
-  cluster = cluster; number = number; seconds = seconds; declared = empty; queue = []; lease = None; marked = unmarked;
+  cluster = cluster;
+  number = number;
+  seconds = seconds;
+  declared = empty;
+  queue = [];
+  lease = None;
+  marked = unmarked;
 }
 
 -- the place of a kind in their order

@@ -7,9 +7,7 @@ pub(crate) enum Item {
     /// The cluster's config.
     Config,
     /// The record of this key, or its deletion where none is declared.
-    Record {
-        key: Bytes,
-    },
+    Record { key: Bytes },
     /// The mark of a kind.
     Mark(Kind),
 }

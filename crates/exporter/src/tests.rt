@@ -81,7 +81,11 @@ fn history(alloc: Global, store: &mut MemoryStore) -> Result<Vec<u8>, StoreFault
     for revision in batch.revisions.as_slice() {
         for change in revision.changes.as_slice() {
             match change {
-                Change::Put { key, value, lease: _ } => {
+                Change::Put {
+                    key,
+                    value,
+                    lease: _,
+                } => {
                     told.push(b'+')?;
                     told.extend_from_slice(key.as_slice())?;
                     told.push(b'=')?;
@@ -110,9 +114,11 @@ fn live(alloc: Global, store: &mut MemoryStore) -> Result<Vec<u8>, StoreFault> {
     Ok(told)
 }
 
-const CONFIG: &[u8] = b"+cilium/cluster-config/east={\"capabilities\":{\"cached\":false,\"maxConnectedClusters\":255,\"syncedCanaries\":true},\"id\":1}\n";
+const CONFIG: &[u8] =
+    b"+cilium/cluster-config/east={\"capabilities\":{\"cached\":false,\"maxConnectedClusters\":255,\"syncedCanaries\":true},\"id\":1}\n";
 
-const MARKS: &[u8] = b"+cilium/synced/east/cilium/state/nodes/v1=1\n+cilium/synced/east/cilium/state/services/v1=1\n+cilium/synced/east/cilium/state/identities/v1=1\n+cilium/synced/east/cilium/state/ip/v1=1\n";
+const MARKS: &[u8] =
+    b"+cilium/synced/east/cilium/state/nodes/v1=1\n+cilium/synced/east/cilium/state/services/v1=1\n+cilium/synced/east/cilium/state/identities/v1=1\n+cilium/synced/east/cilium/state/ip/v1=1\n";
 
 fn joined(alloc: Global, parts: &[&[u8]]) -> Result<Vec<u8>, Memory> {
     let mut whole = Vec::new(alloc);
@@ -123,15 +129,21 @@ fn joined(alloc: Global, parts: &[&[u8]]) -> Result<Vec<u8>, Memory> {
 }
 
 #[test]
-fn a_record_declared_twice_keeps_its_place_and_takes_the_last_value(rt: HostRuntime) -> Result<(), Fail> {
+fn a_record_declared_twice_keeps_its_place_and_takes_the_last_value(
+    rt: HostRuntime,
+) -> Result<(), Fail> {
     let alloc = rt.alloc();
     let mut exporter = exporter(alloc, 3)?;
     let mut store = MemoryStore::new(alloc);
     start(&mut exporter, &mut store)?;
     declare(&mut exporter, 1, 512)?;
-    assert_eq!(rt; export(&mut exporter, &mut store, u64::MAX), Ok(Exported { done: 8, left: 0 }));
+    assert_eq!(rt;
+        export(&mut exporter, &mut store, u64::MAX),
+        Ok(Exported { done: 8, left: 0 })
+    );
     assert!(rt; exporter.is_synced());
-    let records = b"+cilium/state/ip/v1/default/10.0.0.0={\"ID\":256,\"IP\":\"10.0.0.0\"}\n+cilium/state/ip/v1/default/10.0.0.1={\"ID\":512,\"IP\":\"10.0.0.1\"}\n+cilium/state/ip/v1/default/10.0.0.2={\"ID\":256,\"IP\":\"10.0.0.2\"}\n";
+    let records =
+        b"+cilium/state/ip/v1/default/10.0.0.0={\"ID\":256,\"IP\":\"10.0.0.0\"}\n+cilium/state/ip/v1/default/10.0.0.1={\"ID\":512,\"IP\":\"10.0.0.1\"}\n+cilium/state/ip/v1/default/10.0.0.2={\"ID\":256,\"IP\":\"10.0.0.2\"}\n";
     let expected = joined(alloc, &[CONFIG, records, MARKS])?;
     assert_eq!(rt; history(alloc, &mut store)?.as_slice(), expected.as_slice());
     Ok(())
@@ -145,12 +157,18 @@ fn a_record_withdrawn_while_it_waits_is_deleted_in_its_turn(rt: HostRuntime) -> 
     start(&mut exporter, &mut store)?;
     exporter.withdraw(&key(0))?;
     exporter.withdraw(&key(9))?;
-    assert_eq!(rt; export(&mut exporter, &mut store, u64::MAX), Ok(Exported { done: 6, left: 0 }));
+    assert_eq!(rt;
+        export(&mut exporter, &mut store, u64::MAX),
+        Ok(Exported { done: 6, left: 0 })
+    );
     let expected = joined(alloc, &[CONFIG, MARKS])?;
     assert_eq!(rt; history(alloc, &mut store)?.as_slice(), expected.as_slice());
     declare(&mut exporter, 0, 256)?;
     exporter.withdraw(&key(0))?;
-    assert_eq!(rt; export(&mut exporter, &mut store, u64::MAX), Ok(Exported { done: 1, left: 0 }));
+    assert_eq!(rt;
+        export(&mut exporter, &mut store, u64::MAX),
+        Ok(Exported { done: 1, left: 0 })
+    );
     Ok(())
 }
 
@@ -160,15 +178,24 @@ fn a_record_declared_during_an_export_comes_behind_the_marks(rt: HostRuntime) ->
     let mut exporter = exporter(alloc, 1)?;
     let mut store = MemoryStore::new(alloc);
     start(&mut exporter, &mut store)?;
-    assert_eq!(rt; export(&mut exporter, &mut store, 2), Ok(Exported { done: 2, left: 4 }));
+    assert_eq!(rt;
+        export(&mut exporter, &mut store, 2),
+        Ok(Exported { done: 2, left: 4 })
+    );
     assert!(rt; !exporter.is_synced());
     declare(&mut exporter, 1, 256)?;
-    assert_eq!(rt; export(&mut exporter, &mut store, u64::MAX), Ok(Exported { done: 5, left: 0 }));
+    assert_eq!(rt;
+        export(&mut exporter, &mut store, u64::MAX),
+        Ok(Exported { done: 5, left: 0 })
+    );
     let first = b"+cilium/state/ip/v1/default/10.0.0.0={\"ID\":256,\"IP\":\"10.0.0.0\"}\n";
     let last = b"+cilium/state/ip/v1/default/10.0.0.1={\"ID\":256,\"IP\":\"10.0.0.1\"}\n";
     let expected = joined(alloc, &[CONFIG, first, MARKS, last])?;
     assert_eq!(rt; history(alloc, &mut store)?.as_slice(), expected.as_slice());
-    assert_eq!(rt; export(&mut exporter, &mut store, u64::MAX), Ok(Exported { done: 0, left: 0 }));
+    assert_eq!(rt;
+        export(&mut exporter, &mut store, u64::MAX),
+        Ok(Exported { done: 0, left: 0 })
+    );
     Ok(())
 }
 
@@ -178,19 +205,34 @@ fn a_lease_that_lapsed_stops_the_exporter(rt: HostRuntime) -> Result<(), Fail> {
     let mut exporter = exporter(alloc, 1)?;
     let mut store = MemoryStore::new(alloc);
     start(&mut exporter, &mut store)?;
-    assert_eq!(rt; export(&mut exporter, &mut store, 2), Ok(Exported { done: 2, left: 4 }));
+    assert_eq!(rt;
+        export(&mut exporter, &mut store, 2),
+        Ok(Exported { done: 2, left: 4 })
+    );
     assert_eq!(rt; exporter.keep(&mut store), Ok(()));
     let _ = store.tick(alloc, 900)?;
-    assert_eq!(rt; export(&mut exporter, &mut store, 2), Err(ExportFault::NoLease { lease: 1 }));
+    assert_eq!(rt;
+        export(&mut exporter, &mut store, 2),
+        Err(ExportFault::NoLease { lease: 1 })
+    );
     assert!(rt; !exporter.is_running());
     assert_eq!(rt; exporter.left(), 0);
     assert_eq!(rt; exporter.keep(&mut store), Ok(()));
-    assert_eq!(rt; export(&mut exporter, &mut store, 2), Ok(Exported { done: 0, left: 0 }));
+    assert_eq!(rt;
+        export(&mut exporter, &mut store, 2),
+        Ok(Exported { done: 0, left: 0 })
+    );
     assert_eq!(rt; live(alloc, &mut store)?.len(), 0);
     start(&mut exporter, &mut store)?;
-    assert_eq!(rt; export(&mut exporter, &mut store, u64::MAX), Ok(Exported { done: 6, left: 0 }));
+    assert_eq!(rt;
+        export(&mut exporter, &mut store, u64::MAX),
+        Ok(Exported { done: 6, left: 0 })
+    );
     let _ = store.tick(alloc, 900)?;
-    assert_eq!(rt; exporter.keep(&mut store), Err(ExportFault::NoLease { lease: 2 }));
+    assert_eq!(rt;
+        exporter.keep(&mut store),
+        Err(ExportFault::NoLease { lease: 2 })
+    );
     assert!(rt; !exporter.is_running());
     Ok(())
 }
@@ -203,9 +245,15 @@ fn a_lost_commit_leaves_its_item_in_front(rt: HostRuntime) -> Result<(), Fail> {
         let mut exporter = exporter(alloc, 1)?;
         let mut store = MemoryStore::new(alloc);
         start(&mut exporter, &mut store)?;
-        assert_eq!(rt; export_failing(alloc, &mut exporter, &mut store, 1, when), Err(ExportFault::Lost));
+        assert_eq!(rt;
+            export_failing(alloc, &mut exporter, &mut store, 1, when),
+            Err(ExportFault::Lost)
+        );
         assert_eq!(rt; exporter.left(), 5);
-        assert_eq!(rt; export(&mut exporter, &mut store, u64::MAX), Ok(Exported { done: 5, left: 0 }));
+        assert_eq!(rt;
+            export(&mut exporter, &mut store, u64::MAX),
+            Ok(Exported { done: 5, left: 0 })
+        );
         let expected = match when {
             When::Before => joined(alloc, &[CONFIG, record, MARKS])?,
             When::After => joined(alloc, &[CONFIG, record, record, MARKS])?,
@@ -221,15 +269,23 @@ fn a_start_over_a_running_exporter_forgets_what_was_withdrawn(rt: HostRuntime) -
     let mut exporter = exporter(alloc, 1)?;
     let mut store = MemoryStore::new(alloc);
     start(&mut exporter, &mut store)?;
-    assert_eq!(rt; export(&mut exporter, &mut store, u64::MAX), Ok(Exported { done: 6, left: 0 }));
+    assert_eq!(rt;
+        export(&mut exporter, &mut store, u64::MAX),
+        Ok(Exported { done: 6, left: 0 })
+    );
     exporter.withdraw(&key(0))?;
     let _ = store.tick(alloc, 1)?;
     start(&mut exporter, &mut store)?;
-    assert_eq!(rt; export(&mut exporter, &mut store, u64::MAX), Ok(Exported { done: 5, left: 0 }));
-    let six = b"cilium/cluster-config/east\ncilium/state/ip/v1/default/10.0.0.0\ncilium/synced/east/cilium/state/identities/v1\ncilium/synced/east/cilium/state/ip/v1\ncilium/synced/east/cilium/state/nodes/v1\ncilium/synced/east/cilium/state/services/v1\n";
+    assert_eq!(rt;
+        export(&mut exporter, &mut store, u64::MAX),
+        Ok(Exported { done: 5, left: 0 })
+    );
+    let six =
+        b"cilium/cluster-config/east\ncilium/state/ip/v1/default/10.0.0.0\ncilium/synced/east/cilium/state/identities/v1\ncilium/synced/east/cilium/state/ip/v1\ncilium/synced/east/cilium/state/nodes/v1\ncilium/synced/east/cilium/state/services/v1\n";
     assert_eq!(rt; live(alloc, &mut store)?.as_slice(), six.as_slice());
     let _ = store.tick(alloc, 899)?;
-    let five = b"cilium/cluster-config/east\ncilium/synced/east/cilium/state/identities/v1\ncilium/synced/east/cilium/state/ip/v1\ncilium/synced/east/cilium/state/nodes/v1\ncilium/synced/east/cilium/state/services/v1\n";
+    let five =
+        b"cilium/cluster-config/east\ncilium/synced/east/cilium/state/identities/v1\ncilium/synced/east/cilium/state/ip/v1\ncilium/synced/east/cilium/state/nodes/v1\ncilium/synced/east/cilium/state/services/v1\n";
     assert_eq!(rt; live(alloc, &mut store)?.as_slice(), five.as_slice());
     exporter.stop();
     assert!(rt; !exporter.is_running());

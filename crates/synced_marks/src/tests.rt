@@ -24,15 +24,34 @@ fn marks_and_cuts_have_their_keys(rt: HostRuntime) -> Result<(), Fail> {
     let alloc = rt.alloc();
     let east = ClusterName::read(alloc, b"east")?;
     let marks = [
-        (Hop::State, Kind::Nodes, b"cilium/synced/east/cilium/state/nodes/v1".as_slice()),
-        (Hop::State, Kind::Services, b"cilium/synced/east/cilium/state/services/v1".as_slice()),
-        (Hop::Cache, Kind::Identities, b"cilium/synced/east/cilium/cache/identities/v1".as_slice()),
-        (Hop::Cache, Kind::Addresses, b"cilium/synced/east/cilium/cache/ip/v1".as_slice()),
+        (
+            Hop::State,
+            Kind::Nodes,
+            b"cilium/synced/east/cilium/state/nodes/v1".as_slice(),
+        ),
+        (
+            Hop::State,
+            Kind::Services,
+            b"cilium/synced/east/cilium/state/services/v1".as_slice(),
+        ),
+        (
+            Hop::Cache,
+            Kind::Identities,
+            b"cilium/synced/east/cilium/cache/identities/v1".as_slice(),
+        ),
+        (
+            Hop::Cache,
+            Kind::Addresses,
+            b"cilium/synced/east/cilium/cache/ip/v1".as_slice(),
+        ),
     ];
     for (hop, kind, key) in marks {
         assert_eq!(rt; mark_key(alloc, &east, hop, kind)?.as_slice(), key);
     }
-    assert_eq!(rt; cut_key(alloc, &east)?.as_slice(), b"cilium/cuts/v1/east".as_slice());
+    assert_eq!(rt;
+        cut_key(alloc, &east)?.as_slice(),
+        b"cilium/cuts/v1/east".as_slice()
+    );
     Ok(())
 }
 

@@ -10,7 +10,6 @@ invariant_of-self c =
     let whole : c.self.inside.items.items ≡ c.pop_back.new.self.items ++ item.Record c.in-Some-Record.key ∷ [] = c.in-Some-Record.ensures.items ∙ ap (λ (i : Item). c.pop_back.new.self.items ++ i ∷ []) c.in-Some-Record.field-0-is in
     dropped_key c.pop_back.new.self.items c.self.inside.keys c.remove.new.self c.in-Some-Record.key (subst (λ (q : List Item). HasKeys q c.self.inside.keys) whole c.self.invariant) c.remove.ensures.updates.0
 
-
 pub invariant_of-self-in-Some-Config : goal.invariant_of-self-in-Some-Config
 invariant_of-self-in-Some-Config c =
     let whole : c.self.inside.items.items ≡ c.pop_back.new.self.items ++ item.Config ∷ [] = c.in-Some-Config.ensures.items ∙ ap (λ (i : Item). c.pop_back.new.self.items ++ i ∷ []) c.in-Some-Config.field-0-is in
