@@ -41,19 +41,20 @@ fn exporter(alloc: Global, n: u8) -> Result<Exporter, Fail> {
     Ok(exporter)
 }
 
-fn start(exporter: &mut Exporter, store: &mut MemoryStore) -> Result<(), ExportFault> {
-    exporter.start(store)
+// One step of a test.
+#[derive(Clone, Copy)]
+enum Act {
+    Declare(u8, u32),
+    Withdraw(u8),
+    Start,
+    Stop,
+    Export(u64),
+    /// Exports everything through a link on which the call after so many fails.
+    Failing(u32, When),
+    Keep,
+    Tick(u64),
 }
 
-fn export(
-    exporter: &mut Exporter,
-    store: &mut MemoryStore,
-    most: u64,
-) -> Result<Exported, ExportFault> {
-    exporter.export(store, most)
-}
-
-// Exports through a link on which the call after so many fails.
 fn export_failing(
     alloc: Global,
     exporter: &mut Exporter,
@@ -65,6 +66,72 @@ fn export_failing(
     state.fail(skip, when)?;
     let mut link = FlakyLink::new(&mut state, store);
     exporter.export(&mut link, u64::MAX)
+}
+
+// A fault in words.
+fn fault(alloc: Global, fault: ExportFault) -> Result<String, Memory> {
+    Ok(match fault {
+        ExportFault::Lost => String::from_str(alloc, "lost; ")?,
+        ExportFault::NoLease { lease } => format!(in alloc; "no lease {lease}; ")?,
+        ExportFault::Memory => String::from_str(alloc, "memory; ")?,
+    })
+}
+
+// The answer of an export in words: what was done, and what is left.
+fn exported(alloc: Global, answer: Result<Exported, ExportFault>) -> Result<String, Memory> {
+    match answer {
+        Ok(Exported { done, left }) => Ok(format!(in alloc; "{done} {left}; ")?),
+        Err(why) => fault(alloc, why),
+    }
+}
+
+// The answer of another call in words.
+fn answered(alloc: Global, answer: Result<(), ExportFault>) -> Result<String, Memory> {
+    match answer {
+        Ok(()) => Ok(String::new(alloc)),
+        Err(why) => fault(alloc, why),
+    }
+}
+
+// Takes a step, and answers in words.
+fn take_step(
+    alloc: Global,
+    exporter: &mut Exporter,
+    store: &mut MemoryStore,
+    act: &Act,
+) -> Result<String, Fail> {
+    match act {
+        Act::Declare(n, id) => declare(exporter, *n, *id)?,
+        Act::Withdraw(n) => exporter.withdraw(&key(*n))?,
+        Act::Start => return Ok(answered(alloc, exporter.start(store))?),
+        Act::Stop => exporter.stop(),
+        Act::Export(most) => return Ok(exported(alloc, exporter.export(store, *most))?),
+        Act::Failing(skip, when) => {
+            let answer = export_failing(alloc, exporter, store, *skip, *when);
+            return Ok(exported(alloc, answer)?);
+        }
+        Act::Keep => return Ok(answered(alloc, exporter.keep(store))?),
+        Act::Tick(seconds) => {
+            let _ = store.tick(alloc, *seconds)?;
+        }
+    }
+    Ok(String::new(alloc))
+}
+
+// The answers to the steps of an exporter of the addresses from 10.0.0.0 on, so many, in words; then
+// what each revision of its store changed.
+fn run(alloc: Global, addresses: u8, acts: &[Act]) -> Result<Vec<u8>, Fail> {
+    let mut exporter = exporter(alloc, addresses)?;
+    let mut store = MemoryStore::new(alloc);
+    let mut told = Vec::new(alloc);
+    for act in acts {
+        let answer = take_step(alloc, &mut exporter, &mut store, act)?;
+        told.extend_from_slice(answer.as_bytes())?;
+    }
+    told.push(b'\n')?;
+    let changes = history(alloc, &mut store)?;
+    told.extend_from_slice(changes.as_slice())?;
+    Ok(told)
 }
 
 fn everything(alloc: Global) -> Result<Ranges, Memory> {
@@ -102,18 +169,6 @@ fn history(alloc: Global, store: &mut MemoryStore) -> Result<Vec<u8>, StoreFault
     Ok(told)
 }
 
-// The keys that are live.
-fn live(alloc: Global, store: &mut MemoryStore) -> Result<Vec<u8>, StoreFault> {
-    let ranges = everything(alloc)?;
-    let listing = store.list(alloc, &ranges)?;
-    let mut told = Vec::new(alloc);
-    for pair in listing.pairs.as_slice() {
-        told.extend_from_slice(pair.key.as_slice())?;
-        told.push(b'\n')?;
-    }
-    Ok(told)
-}
-
 const CONFIG: &[u8] =
     b"+cilium/cluster-config/east={\"capabilities\":{\"cached\":false,\"maxConnectedClusters\":255,\"syncedCanaries\":true},\"id\":1}\n";
 
@@ -128,166 +183,121 @@ fn joined(alloc: Global, parts: &[&[u8]]) -> Result<Vec<u8>, Memory> {
     Ok(whole)
 }
 
+const RECORD_0: &[u8] = b"+cilium/state/ip/v1/default/10.0.0.0={\"ID\":256,\"IP\":\"10.0.0.0\"}\n";
+
+const RECORD_1: &[u8] = b"+cilium/state/ip/v1/default/10.0.0.1={\"ID\":512,\"IP\":\"10.0.0.1\"}\n";
+
 #[test]
-fn a_record_declared_twice_keeps_its_place_and_takes_the_last_value(
-    rt: HostRuntime,
-) -> Result<(), Fail> {
+fn a_key_waits_once_and_takes_the_last_value(rt: HostRuntime) -> Result<(), Fail> {
     let alloc = rt.alloc();
-    let mut exporter = exporter(alloc, 3)?;
-    let mut store = MemoryStore::new(alloc);
-    start(&mut exporter, &mut store)?;
-    declare(&mut exporter, 1, 512)?;
-    assert_eq!(rt;
-        export(&mut exporter, &mut store, u64::MAX),
-        Ok(Exported { done: 8, left: 0 })
-    );
-    assert!(rt; exporter.is_synced());
-    let records =
-        b"+cilium/state/ip/v1/default/10.0.0.0={\"ID\":256,\"IP\":\"10.0.0.0\"}\n+cilium/state/ip/v1/default/10.0.0.1={\"ID\":512,\"IP\":\"10.0.0.1\"}\n+cilium/state/ip/v1/default/10.0.0.2={\"ID\":256,\"IP\":\"10.0.0.2\"}\n";
-    let expected = joined(alloc, &[CONFIG, records, MARKS])?;
-    assert_eq!(rt; history(alloc, &mut store)?.as_slice(), expected.as_slice());
+    let acts = [
+        Act::Start,
+        Act::Declare(1, 512),
+        Act::Declare(0, 256),
+        Act::Export(u64::MAX),
+    ];
+    let expected = joined(alloc, &[b"7 0; \n", CONFIG, RECORD_0, RECORD_1, MARKS])?;
+    assert_eq!(rt; run(alloc, 2, &acts)?.as_slice(), expected.as_slice());
     Ok(())
 }
 
 #[test]
 fn a_record_withdrawn_while_it_waits_is_deleted_in_its_turn(rt: HostRuntime) -> Result<(), Fail> {
     let alloc = rt.alloc();
-    let mut exporter = exporter(alloc, 1)?;
-    let mut store = MemoryStore::new(alloc);
-    start(&mut exporter, &mut store)?;
-    exporter.withdraw(&key(0))?;
-    exporter.withdraw(&key(9))?;
-    assert_eq!(rt;
-        export(&mut exporter, &mut store, u64::MAX),
-        Ok(Exported { done: 6, left: 0 })
-    );
-    let expected = joined(alloc, &[CONFIG, MARKS])?;
-    assert_eq!(rt; history(alloc, &mut store)?.as_slice(), expected.as_slice());
-    declare(&mut exporter, 0, 256)?;
-    exporter.withdraw(&key(0))?;
-    assert_eq!(rt;
-        export(&mut exporter, &mut store, u64::MAX),
-        Ok(Exported { done: 1, left: 0 })
-    );
+    let acts = [
+        Act::Start,
+        Act::Withdraw(0),
+        Act::Withdraw(9),
+        Act::Export(u64::MAX),
+    ];
+    let expected = joined(alloc, &[b"6 0; \n", CONFIG, MARKS])?;
+    assert_eq!(rt; run(alloc, 1, &acts)?.as_slice(), expected.as_slice());
     Ok(())
 }
 
 #[test]
 fn a_record_declared_during_an_export_comes_behind_the_marks(rt: HostRuntime) -> Result<(), Fail> {
     let alloc = rt.alloc();
-    let mut exporter = exporter(alloc, 1)?;
-    let mut store = MemoryStore::new(alloc);
-    start(&mut exporter, &mut store)?;
-    assert_eq!(rt;
-        export(&mut exporter, &mut store, 2),
-        Ok(Exported { done: 2, left: 4 })
-    );
-    assert!(rt; !exporter.is_synced());
-    declare(&mut exporter, 1, 256)?;
-    assert_eq!(rt;
-        export(&mut exporter, &mut store, u64::MAX),
-        Ok(Exported { done: 5, left: 0 })
-    );
-    let first = b"+cilium/state/ip/v1/default/10.0.0.0={\"ID\":256,\"IP\":\"10.0.0.0\"}\n";
-    let last = b"+cilium/state/ip/v1/default/10.0.0.1={\"ID\":256,\"IP\":\"10.0.0.1\"}\n";
-    let expected = joined(alloc, &[CONFIG, first, MARKS, last])?;
-    assert_eq!(rt; history(alloc, &mut store)?.as_slice(), expected.as_slice());
-    assert_eq!(rt;
-        export(&mut exporter, &mut store, u64::MAX),
-        Ok(Exported { done: 0, left: 0 })
-    );
+    let acts = [
+        Act::Start,
+        Act::Export(2),
+        Act::Declare(1, 512),
+        Act::Export(u64::MAX),
+        Act::Export(5),
+    ];
+    let expected = joined(
+        alloc,
+        &[b"2 4; 5 0; 0 0; \n", CONFIG, RECORD_0, MARKS, RECORD_1],
+    )?;
+    assert_eq!(rt; run(alloc, 1, &acts)?.as_slice(), expected.as_slice());
     Ok(())
 }
 
 #[test]
 fn a_lease_that_lapsed_stops_the_exporter(rt: HostRuntime) -> Result<(), Fail> {
     let alloc = rt.alloc();
-    let mut exporter = exporter(alloc, 1)?;
-    let mut store = MemoryStore::new(alloc);
-    start(&mut exporter, &mut store)?;
-    assert_eq!(rt;
-        export(&mut exporter, &mut store, 2),
-        Ok(Exported { done: 2, left: 4 })
-    );
-    assert_eq!(rt; exporter.keep(&mut store), Ok(()));
-    let _ = store.tick(alloc, 900)?;
-    assert_eq!(rt;
-        export(&mut exporter, &mut store, 2),
-        Err(ExportFault::NoLease { lease: 1 })
-    );
-    assert!(rt; !exporter.is_running());
-    assert_eq!(rt; exporter.left(), 0);
-    assert_eq!(rt; exporter.keep(&mut store), Ok(()));
-    assert_eq!(rt;
-        export(&mut exporter, &mut store, 2),
-        Ok(Exported { done: 0, left: 0 })
-    );
-    assert_eq!(rt; live(alloc, &mut store)?.len(), 0);
-    start(&mut exporter, &mut store)?;
-    assert_eq!(rt;
-        export(&mut exporter, &mut store, u64::MAX),
-        Ok(Exported { done: 6, left: 0 })
-    );
-    let _ = store.tick(alloc, 900)?;
-    assert_eq!(rt;
-        exporter.keep(&mut store),
-        Err(ExportFault::NoLease { lease: 2 })
-    );
-    assert!(rt; !exporter.is_running());
+    let acts = [
+        Act::Start,
+        Act::Export(1),
+        Act::Keep,
+        Act::Tick(900),
+        Act::Export(2),
+        Act::Export(2),
+        Act::Keep,
+        Act::Start,
+        Act::Tick(900),
+        Act::Keep,
+    ];
+    let lapsed = b"-cilium/cluster-config/east\n";
+    let expected = joined(
+        alloc,
+        &[b"1 5; no lease 1; 0 0; no lease 2; \n", CONFIG, lapsed],
+    )?;
+    assert_eq!(rt; run(alloc, 1, &acts)?.as_slice(), expected.as_slice());
     Ok(())
 }
 
 #[test]
 fn a_lost_commit_leaves_its_item_in_front(rt: HostRuntime) -> Result<(), Fail> {
     let alloc = rt.alloc();
-    let record = b"+cilium/state/ip/v1/default/10.0.0.0={\"ID\":256,\"IP\":\"10.0.0.0\"}\n";
-    for when in [When::Before, When::After] {
-        let mut exporter = exporter(alloc, 1)?;
-        let mut store = MemoryStore::new(alloc);
-        start(&mut exporter, &mut store)?;
-        assert_eq!(rt;
-            export_failing(alloc, &mut exporter, &mut store, 1, when),
-            Err(ExportFault::Lost)
-        );
-        assert_eq!(rt; exporter.left(), 5);
-        assert_eq!(rt;
-            export(&mut exporter, &mut store, u64::MAX),
-            Ok(Exported { done: 5, left: 0 })
-        );
-        let expected = match when {
-            When::Before => joined(alloc, &[CONFIG, record, MARKS])?,
-            When::After => joined(alloc, &[CONFIG, record, record, MARKS])?,
-        };
-        assert_eq!(rt; history(alloc, &mut store)?.as_slice(), expected.as_slice());
-    }
+    let before = [
+        Act::Start,
+        Act::Failing(1, When::Before),
+        Act::Export(u64::MAX),
+    ];
+    let expected = joined(alloc, &[b"lost; 5 0; \n", CONFIG, RECORD_0, MARKS])?;
+    assert_eq!(rt; run(alloc, 1, &before)?.as_slice(), expected.as_slice());
+    let after = [
+        Act::Start,
+        Act::Failing(1, When::After),
+        Act::Export(u64::MAX),
+    ];
+    let expected = joined(
+        alloc,
+        &[b"lost; 5 0; \n", CONFIG, RECORD_0, RECORD_0, MARKS],
+    )?;
+    assert_eq!(rt; run(alloc, 1, &after)?.as_slice(), expected.as_slice());
     Ok(())
 }
 
 #[test]
 fn a_start_over_a_running_exporter_forgets_what_was_withdrawn(rt: HostRuntime) -> Result<(), Fail> {
     let alloc = rt.alloc();
-    let mut exporter = exporter(alloc, 1)?;
-    let mut store = MemoryStore::new(alloc);
-    start(&mut exporter, &mut store)?;
-    assert_eq!(rt;
-        export(&mut exporter, &mut store, u64::MAX),
-        Ok(Exported { done: 6, left: 0 })
-    );
-    exporter.withdraw(&key(0))?;
-    let _ = store.tick(alloc, 1)?;
-    start(&mut exporter, &mut store)?;
-    assert_eq!(rt;
-        export(&mut exporter, &mut store, u64::MAX),
-        Ok(Exported { done: 5, left: 0 })
-    );
-    let six =
-        b"cilium/cluster-config/east\ncilium/state/ip/v1/default/10.0.0.0\ncilium/synced/east/cilium/state/identities/v1\ncilium/synced/east/cilium/state/ip/v1\ncilium/synced/east/cilium/state/nodes/v1\ncilium/synced/east/cilium/state/services/v1\n";
-    assert_eq!(rt; live(alloc, &mut store)?.as_slice(), six.as_slice());
-    let _ = store.tick(alloc, 899)?;
-    let five =
-        b"cilium/cluster-config/east\ncilium/synced/east/cilium/state/identities/v1\ncilium/synced/east/cilium/state/ip/v1\ncilium/synced/east/cilium/state/nodes/v1\ncilium/synced/east/cilium/state/services/v1\n";
-    assert_eq!(rt; live(alloc, &mut store)?.as_slice(), five.as_slice());
-    exporter.stop();
-    assert!(rt; !exporter.is_running());
+    let acts = [
+        Act::Start,
+        Act::Export(2),
+        Act::Withdraw(0),
+        Act::Tick(1),
+        Act::Start,
+        Act::Export(u64::MAX),
+        Act::Tick(899),
+        Act::Stop,
+    ];
+    let lapsed = b"-cilium/state/ip/v1/default/10.0.0.0\n";
+    let expected = joined(
+        alloc,
+        &[b"2 4; 5 0; \n", CONFIG, RECORD_0, CONFIG, MARKS, lapsed],
+    )?;
+    assert_eq!(rt; run(alloc, 1, &acts)?.as_slice(), expected.as_slice());
     Ok(())
 }
