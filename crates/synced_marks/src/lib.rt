@@ -1,0 +1,13 @@
+//! Whether a source is synced, and the keys that say so.
+//!
+//! `synced` has the test, `keys` the keys of the marks and the cut, and the value of a cut.
+//! It knows nothing of stores or views.
+#![tactic(auto)]
+
+mod keys;
+mod synced;
+#[cfg(test)]
+mod tests;
+
+pub use keys::{cut_key, cut_value, mark_key, read_cut};
+pub use synced::is_synced;
