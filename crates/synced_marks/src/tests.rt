@@ -4,18 +4,22 @@ use mesh_records::ClusterConfig;
 use mesh_text::ClusterName;
 use std::test::Fail;
 
+fn is_synced_by(config: &ClusterConfig, marks: [bool; 4]) -> bool {
+    is_synced(Some(config), marks)
+}
+
 #[test]
 fn a_source_is_synced_by_its_config_and_its_marks(rt: HostRuntime) {
     let plain = ClusterConfig::new(1, false, false, 255);
     let canaries = ClusterConfig::new(1, true, false, 255);
     let all = [true; 4];
     assert!(rt; !is_synced(None, all));
-    assert!(rt; is_synced(Some(&plain), [false; 4]));
-    assert!(rt; is_synced(Some(&canaries), all));
+    assert!(rt; is_synced_by(&plain, [false; 4]));
+    assert!(rt; is_synced_by(&canaries, all));
     for missing in 0..4usize {
         let mut marks = all;
         marks[missing] = false;
-        assert!(rt; !is_synced(Some(&canaries), marks));
+        assert!(rt; !is_synced_by(&canaries, marks));
     }
 }
 
