@@ -31,6 +31,11 @@ fn put(alloc: Global, source: &mut Source, key: &str, value: &str) -> Result<(),
     Ok(())
 }
 
+fn tell_config(alloc: Global, source: &mut Source, config: &str) -> Result<(), Memory> {
+    source.config = Some(check_config(alloc, Limit::Small, config.as_bytes())?);
+    Ok(())
+}
+
 /// A source with these pairs, and with a config where the value is not empty.
 fn source(
     alloc: Global,
@@ -40,7 +45,7 @@ fn source(
 ) -> Result<Source, Memory> {
     let mut source = Source::new(alloc, cluster_name(alloc, cluster)?);
     if !config.is_empty() {
-        source.config = Some(check_config(alloc, Limit::Small, config.as_bytes())?);
+        tell_config(alloc, &mut source, config)?;
     }
     for pair in pairs {
         put(alloc, &mut source, pair.0, pair.1)?;
