@@ -1,5 +1,0 @@
-pub mod State
-pub mod Kept
-pub mod Calls
-pub mod Fields
-pub mod Runs
