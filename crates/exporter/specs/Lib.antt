@@ -1,0 +1,5 @@
+pub mod State
+pub mod Kept
+pub mod Calls
+pub mod Fields
+pub mod Runs
