@@ -1,15 +1,14 @@
 -- What an exporter exports, key by key, and what writing an item is by that.
-use Rattle.std.proofs.Common.{◌≡◌, ◌≢◌, ℕ, List, [], ◌∷◌, ◌++◌, map, get_or, codes, Bool, true, false, ◌||◌, cond, Option, None, Some, is_some, nat_eq, refl, sym, ap, subst, ◌∙◌, drop, length, arith}
+use Rattle.std.proofs.Common.{◌≡◌, ◌≢◌, ℕ, List, [], ◌∷◌, ◌++◌, map, get_or, Bool, true, false, ◌||◌, cond, Option, Some, nat_eq, refl, sym, ap, ◌∙◌, drop, length, arith}
 use Rattle.std.specs.Bool.{IsTrue}
 use Rattle.std.specs.Cmp.{eq_by_cmp_equiv}
 use Rattle.std.specs.Cmp.Lexicographic.{slice_cmp, nat_list_cmp_total}
 use Rattle.std.specs.Ordering.{nat_cmp, eq_by_cmp}
 use Rattle.std.specs.FinMap.{get, get-entries, get-from_entries, entries}
 use Rattle.std.specs.List.{list_any, starts_with}
-use Rattle.mesh_base.specs.Order.{same_bytes}
 use Rattle.mesh_text.specs.declared.kind.Kind.{Kind}
 use Rattle.mesh_text.specs.declared.kind.Kind.TheVariants.{Nodes, Services, Identities, Addresses}
-use Rattle.store_api.specs.History.{Pairing, in_ranges}
+use Rattle.store_api.specs.History.{in_ranges}
 use Rattle.key_paths.specs.declared.hop.Hop.TheVariants.{State}
 use Rattle.key_paths.specs.Beginnings.{beginning}
 use Rattle.key_paths.specs.Paths.{kinds, config_key, mark_key, record_front, record_ranges}

@@ -1,9 +1,9 @@
 -- What one revision more does to what is live and to what is attached.
-use Rattle.std.proofs.Common.{◌≡◌, ℕ, zero, suc, ◌+◌, ◌≤◌, List, [], ◌∷◌, ◌++◌, length, Option, None, Some, Bool, true, false, cond, is_some, IsTrue, refl, ap, sym, ◌∙◌, arith}
+use Rattle.std.proofs.Common.{◌≡◌, ℕ, zero, suc, ◌+◌, ◌≤◌, List, [], ◌∷◌, ◌++◌, length, Option, None, Some, true, false, cond, is_some, IsTrue, refl, ap, sym, ◌∙◌, arith}
 use Rattle.std.proofs.lemmas.List.{get_or_append_left, get_or_push, length-append}
 use Rattle.mesh_base.specs.Order.{same_bytes}
 use Rattle.store_api.specs.Attached.{lease_after_all, lease_at, lease_of}
-use Rattle.store_api.specs.History.{History, revision, changes_at, live_at, after_changes, with_revision, change_of, changes_of, committed}
+use Rattle.store_api.specs.History.{History, revision, changes_at, live_at, after_changes, with_revision, changes_of, committed}
 use Rattle.store_api.specs.declared.change.Change.{Change}
 use Rattle.store_api.specs.declared.change.Change.TheVariants as change
 use Rattle.store_api.proofs.CallerLemmas.{attached_live}

@@ -6,3 +6,5 @@ pub mod Marks
 pub mod Histories
 pub mod Exports
 pub mod Exact
+pub mod CallerLemmas
+pub mod Links

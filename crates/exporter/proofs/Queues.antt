@@ -1,6 +1,5 @@
 -- How often keys wait in a queue.
-use Rattle.std.proofs.Common.{◌≡◌, ◌≢◌, ◌⊎◌, inl, inr, ℕ, suc, ◌+◌, List, [], ◌∷◌, ◌++◌, map, not, Bool, true, false, cond, refl, sym, ap, subst, ◌∙◌, ◌||◌, Option, None, Some, append_assoc, append-nil, arith}
-use Rattle.std.proofs.lemmas.Bool.Decides.{nat_tests}
+use Rattle.std.proofs.Common.{◌≡◌, ℕ, ◌+◌, List, [], ◌∷◌, ◌++◌, Bool, true, false, cond, refl, sym, ap, subst, ◌∙◌, ◌||◌, Option, None, Some, append-nil, arith}
 use Rattle.std.proofs.lemmas.List.Folds.{list_any-append}
 use Rattle.std.specs.Ordering.{nat_cmp, is_eq}
 use Rattle.std.specs.declared.cmp.Ordering.TheVariants.{Less}
@@ -13,7 +12,7 @@ use Rattle.mesh_base.specs.Order.{same_bytes}
 use Rattle.exporter.specs.declared.item.Item.{Item}
 use Rattle.exporter.specs.declared.item.Item.TheVariants as item
 use Rattle.exporter.specs.Kept.{times, HasKeys}
-use Rattle.exporter.specs.State.{is_record, with_key, record_item}
+use Rattle.exporter.specs.State.{is_record, with_key}
 use Rattle.exporter.proofs.Maps.{same_bytes_are}
 
 abbrev pub as_count : Bool → ℕ

@@ -1,6 +1,5 @@
 -- Items written one after another, and what calls keep.
-use Rattle.std.proofs.Common.{◌≡◌, ℕ, zero, suc, ◌+◌, ◌-◌, ◌<◌, ◌≤◌, List, [], ◌∷◌, ◌++◌, length, drop, refl, sym, ap, subst, ◌∙◌, append_assoc, append-nil, Bool, true, false, cond, is_some, arith}
-use Rattle.store_api.specs.History.{Begins}
+use Rattle.std.proofs.Common.{◌≡◌, ℕ, zero, suc, ◌-◌, List, [], ◌∷◌, ◌++◌, length, drop, refl, sym, ap, subst, ◌∙◌, append_assoc, append-nil, true, false, cond, is_some, arith}
 use Rattle.store_api.specs.Meaning.{Meaning, Keeps}
 use Rattle.exporter.specs.Calls.{Writes, WritesAll}
 use Rattle.exporter.specs.State.{Export, after_item, after_items, waiting, with_key}

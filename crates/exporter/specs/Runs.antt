@@ -1,12 +1,11 @@
 -- Runs of an exporter from a start on, and what holds of each of them.
 -- Source: Cilium's ClusterMesh documentation (a synced canary says that all records of its kind were
 -- written before it) and etcd's API, Lease service (the keys that are attached to a lease).
-use Rattle.std.specs.Prelude.{◌≡◌, ◌≢◌, ℕ, List, [], ◌∷◌, ◌++◌, map, take, All, Bool, true, false, IsTrue, Option, None, Some}
-use Rattle.std.specs.FinMap.{get, contains_key, entries, from_entries, retain_keys}
+use Rattle.std.specs.Prelude.{◌≡◌, ◌≢◌, ℕ, List, [], ◌∷◌, ◌++◌, map, take, All, false, IsTrue, Some}
+use Rattle.std.specs.FinMap.{contains_key, entries, from_entries, retain_keys}
 use Rattle.std.specs.List.{list_any}
 use Rattle.mesh_text.specs.declared.kind.Kind.{Kind}
 use Rattle.store_api.specs.Attached.{is_lease, lapsed, lease_of}
-use Rattle.store_api.specs.Followed.{changed_key}
 use Rattle.store_api.specs.History.{History, Pairing, revision, map_at, in_ranges, with_revision, committed}
 use Rattle.store_api.specs.declared.change.Change.{Change}
 use Rattle.store_api.specs.declared.change.Change.TheVariants as change

@@ -8,9 +8,11 @@ ghost use Rattle.record_check.specs.Reading.{IsOfKind};
 ghost use Rattle.key_paths.specs.declared.hop.Hop.TheVariants.{State};
 ghost use Rattle.store_api.specs.History.{in_ranges};
 ghost use Rattle.store_api.specs.Contents.{after_grant};
+ghost use Rattle.store_api.specs.Crossing.{to_commit, to_grant, to_keep_alive};
 ghost use Rattle.store_api.specs.Meaning.{Keeps, Makes};
 ghost use Rattle.exporter.specs.State.{IsExport, IsExported, after_declare, after_item, after_items, after_start, after_stop, after_withdraw, is_record, is_synced, new_export, next_ops, op_of, record_op, turns, waiting};
 ghost use Rattle.exporter.specs.Calls.{KeepsLease, Refuses, RefusesKeep, RefusesStart, StopsAt, Writes, WritesAll};
+ghost use Rattle.exporter.specs.Crossed.{Crosses, CrossesAll, CrossesOnce, CrossesUpTo, commits, ended};
 
 use crate::declared::Declared;
 use crate::fault::ExportFault;
@@ -102,6 +104,13 @@ impl Exporter {
         self.lease.is_some() && self.marked.iter().all(|mark| *mark)
     }
 
+    /// The name of its cluster.
+    pub fn cluster(&self) -> &ClusterName
+        ensures { result.now ≡ self.now.cluster }
+    {
+        &self.cluster
+    }
+
     /// How many items wait.
     pub fn left(&self) -> u64
         ensures { result ≡ length self.now.queue }
@@ -156,6 +165,9 @@ impl Exporter {
         ensures refused { IfErr result (λ fault. RefusesStart fault self.old (S.meaning store.old) (S.meaning store.new)) }
         ensures unchanged { OnErr result (self.new ≡ self.old) }
 
+        // One call, or none where memory is wanted before it.
+        ensures crossed { CrossesOnce S.meaning S.crossed (to_grant self.old.seconds) (ended result) store.old store.new }
+
         ensures keeps { Keeps (S.meaning store.old) (S.meaning store.new) }
         ensures named { S.name store.new ≡ S.name store.old }
         ensures loans { S.loans store.new ≡ S.loans store.old }
@@ -199,6 +211,9 @@ impl Exporter {
         ensures after { OnOk result (self.new ≡ after_item self.old) }
         ensures refused { IfErr result (λ fault. Refuses fault self.old self.new (S.meaning store.old) (S.meaning store.new)) }
 
+        // One call, or none where memory is wanted before it.
+        ensures crossed { CrossesOnce S.meaning S.crossed (to_commit (next_ops self.old)) (ended result) store.old store.new }
+
         ensures keeps { Keeps (S.meaning store.old) (S.meaning store.new) }
         ensures named { S.name store.new ≡ S.name store.old }
         ensures loans { S.loans store.new ≡ S.loans store.old }
@@ -232,6 +247,10 @@ impl Exporter {
         // No item, no call.
         ensures idle { turns most self.old ≡ 0 → IsOk result × (store.new ≡ store.old) }
 
+        // One call for each item, and none behind the first that is refused.
+        ensures crossed { OnOk result (CrossesAll S.meaning S.crossed (commits (turns most self.old) self.old) store.old store.new) }
+        ensures crossed_up_to { IfErr result (λ fault. CrossesUpTo S.meaning S.crossed fault most self.old self.new store.old store.new) }
+
         ensures keeps { Keeps (S.meaning store.old) (S.meaning store.new) }
         ensures named { S.name store.new ≡ S.name store.old }
         ensures loans { S.loans store.new ≡ S.loans store.old }
@@ -255,6 +274,9 @@ impl Exporter {
         ensures kept { OnOk result ((lease : ℕ) → self.old.lease ≡ Some lease → KeepsLease lease (S.meaning store.old) (S.meaning store.new)) }
         ensures unchanged { OnOk result (self.new ≡ self.old) }
         ensures refused { IfErr result (λ fault. RefusesKeep fault self.old self.new (S.meaning store.old) (S.meaning store.new)) }
+
+        // One call.
+        ensures crossed { (lease : ℕ) → self.old.lease ≡ Some lease → Crosses S.meaning S.crossed (to_keep_alive lease) (ended result) store.old store.new }
 
         ensures keeps { Keeps (S.meaning store.old) (S.meaning store.new) }
         ensures named { S.name store.new ≡ S.name store.old }

@@ -3,3 +3,4 @@ mod Edits
 mod Numbers
 mod Places
 pub mod Ranks
+mod Tournament

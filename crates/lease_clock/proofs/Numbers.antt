@@ -4,7 +4,7 @@ use Rattle.std.specs.List.{remove, find}
 use Rattle.std.specs.Option.{option_map}
 use Rattle.std.proofs.lemmas.Bool.Decides.{nat_tests}
 use Rattle.store_api.specs.Leases.{Lease, is_live_lease, deadline_at, kept_alive}
-use Rattle.lease_clock.specs.Kept.{IsBefore}
+use Rattle.lease_clock.specs.Kept.{IsWithin}
 use Rattle.lease_clock.specs.Lapses.{IsNumbered}
 
 -- the lease has the number
@@ -119,25 +119,21 @@ found n zero (x ∷ xs) d lt e = rw (same x.number n e) refl
 found n (suc i) (x ∷ xs) d lt e =
     elim (x.number == n) as (λ b. (b || is_live_lease xs n) ≡ true) [ true ↦ refl | false ↦ found n i xs d (omega arith) e ]
 
--- a time before all deadlines stays so: earlier, after a push, a write or a removal
-pub before_earlier : (t u : ℕ) (live : List Lease) → t ≤ u → IsBefore u live → IsBefore t live
-before_earlier t u [] le h = tt
-before_earlier t u (x ∷ xs) le h = (omega (arith, h.0), before_earlier t u xs le h.1)
+-- a time that no deadline is after stays so after a push, a write or a removal
+pub within_push : (t : ℕ) (live : List Lease) (w : Lease) → IsWithin t live → w.deadline ≤ t → IsWithin t (live ++ w ∷ [])
+within_push t [] w h le = (le, tt)
+within_push t (x ∷ xs) w h le = (h.0, within_push t xs w h.1 le)
 
-pub before_push : (t : ℕ) (live : List Lease) (w : Lease) → IsBefore t live → t ≤ w.deadline → IsBefore t (live ++ w ∷ [])
-before_push t [] w h le = (le, tt)
-before_push t (x ∷ xs) w h le = (h.0, before_push t xs w h.1 le)
+pub within_set : (t i : ℕ) (live : List Lease) (w : Lease) → IsWithin t live → w.deadline ≤ t → IsWithin t (set live i w)
+within_set t i [] w h le = tt
+within_set t zero (x ∷ xs) w h le = (le, h.1)
+within_set t (suc i) (x ∷ xs) w h le = (h.0, within_set t i xs w h.1 le)
 
-pub before_set : (t i : ℕ) (live : List Lease) (w : Lease) → IsBefore t live → t ≤ w.deadline → IsBefore t (set live i w)
-before_set t i [] w h le = tt
-before_set t zero (x ∷ xs) w h le = (le, h.1)
-before_set t (suc i) (x ∷ xs) w h le = (h.0, before_set t i xs w h.1 le)
-
-pub before_remove : (t i : ℕ) (live : List Lease) → IsBefore t live → IsBefore t (remove live i)
-before_remove t zero [] h = tt
-before_remove t (suc i) [] h = tt
-before_remove t zero (x ∷ xs) h = h.1
-before_remove t (suc i) (x ∷ xs) h = (h.0, before_remove t i xs h.1)
+pub within_remove : (t i : ℕ) (live : List Lease) → IsWithin t live → IsWithin t (remove live i)
+within_remove t zero [] h = tt
+within_remove t (suc i) [] h = tt
+within_remove t zero (x ∷ xs) h = h.1
+within_remove t (suc i) (x ∷ xs) h = (h.0, within_remove t i xs h.1)
 
 -- what is left of the leases keeps both
 pub numbered_filter : (p : Lease → Bool) (last low : ℕ) (live : List Lease) → IsNumbered low live last → IsNumbered low (filter p live) last
@@ -146,7 +142,7 @@ numbered_filter p last low (x ∷ xs) h =
     elim (p x) as (λ b. IsNumbered low (cond b (x ∷ filter p xs) (filter p xs)) last)
     [ true ↦ (h.0, numbered_filter p last x.number xs h.1) | false ↦ wider last low x.number (filter p xs) (omega (arith, h.0)) (numbered_filter p last x.number xs h.1) ]
 
-pub before_filter : (p : Lease → Bool) (t : ℕ) (live : List Lease) → IsBefore t live → IsBefore t (filter p live)
-before_filter p t [] h = tt
-before_filter p t (x ∷ xs) h =
-    elim (p x) as (λ b. IsBefore t (cond b (x ∷ filter p xs) (filter p xs))) [ true ↦ (h.0, before_filter p t xs h.1) | false ↦ before_filter p t xs h.1 ]
+pub within_filter : (p : Lease → Bool) (t : ℕ) (live : List Lease) → IsWithin t live → IsWithin t (filter p live)
+within_filter p t [] h = tt
+within_filter p t (x ∷ xs) h =
+    elim (p x) as (λ b. IsWithin t (cond b (x ∷ filter p xs) (filter p xs))) [ true ↦ (h.0, within_filter p t xs h.1) | false ↦ within_filter p t xs h.1 ]

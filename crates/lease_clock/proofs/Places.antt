@@ -26,7 +26,7 @@ at_view items i d e lt = ap (λ (lease : Lease). lease.number) (get_or-map lease
 
 module _ (items : List LiveLease) (last n : ℕ) (numbered : IsNumbered 0 (leases_of items) last) where
   spare : LiveLease
-  spare = record { number = 0; seconds = 0; deadline = 0 }
+  spare = record { number = 0; seconds = 0; deadline = 0; least = 0 }
 
   numbers_rise : (i j : ℕ) (d : LiveLease) → i ≤ j → j < length items → let a = get_or items i d in let b = get_or items j d in a.number ≤ b.number
   numbers_rise i j d le lt =

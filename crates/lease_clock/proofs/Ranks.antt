@@ -1,14 +1,10 @@
 -- The due leases in order of their ranks.
-use Rattle.std.proofs.Common.{◌≡◌, ℕ, ◌<◌, ◌≤◌, List, [], ◌∷◌, map, filter, length, not, Bool, true, false, cond, ◌||◌, ◌&&◌, T, Option, Some, is_some, IsTrue, refl, ap, sym, ◌∙◌, arith}
+use Rattle.std.proofs.Common.{◌≡◌, ℕ, ◌<◌, ◌≤◌, List, [], ◌∷◌, map, filter, length, not, Bool, true, false, cond, ◌||◌, Option, Some, is_some, IsTrue, refl, ap, sym, ◌∙◌, arith}
 use Rattle.std.specs.List.{list_any, AllByRecursion}
-use Rattle.std.specs.List.Sorted.{IsStrictlySortedBy}
-use Rattle.std.specs.Ordering.{nat_cmp, eq_by_cmp, is_eq, is_lt}
-use Rattle.std.specs.declared.cmp.Ordering.{Ordering}
-use Rattle.std.specs.declared.cmp.Ordering.TheVariants.{Less, Equal, Greater}
+use Rattle.std.specs.Ordering.{nat_cmp, eq_by_cmp, is_eq}
 use Rattle.std.specs.Cmp.{IsTotalOrder, then_total, on_total, nat_cmp_total, tied_itself, eq_by_cmp_equiv}
-use Rattle.std.specs.FinMap as finite
-use Rattle.std.specs.FinMap.{keys, contains_key-keys, get-from_entries, entries_sorted}
-use Rattle.std.specs.FinMap.Entries.{is_sorted, below_all, find}
+use Rattle.std.specs.FinMap.{keys, contains_key-keys, get-from_entries}
+use Rattle.std.specs.FinMap.Entries.{find}
 use Rattle.std.specs.BTreeSet.{BTreeSet, IsOrdered}
 use Rattle.std.proofs.lemmas.Map.Lookups.{exact_unsigned, exact_pairs, btree_set_from_contains}
 use Rattle.store_api.specs.Leases.{Lease, LeaseTable, is_due, rank, rank_cmp, due_by_rank, due_leases, expired}

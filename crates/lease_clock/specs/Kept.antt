@@ -5,7 +5,6 @@ use Rattle.std.specs.Ordering.{eq_by_cmp}
 use Rattle.std.specs.BTreeSet.{BTreeSet, contains}
 use Rattle.store_api.specs.Leases.{Lease, LeaseTable, is_live_lease, is_due, rank, rank_cmp}
 use Rattle.lease_clock.specs.declared.leases.LiveLease.{LiveLease}
-use Rattle.lease_clock.specs.Lapses.{IsNumbered}
 
 -- a kept lease, as the table has it
 abbrev pub lease_of : LiveLease → Lease
@@ -15,14 +14,9 @@ lease_of kept = record { number = kept.number; seconds = kept.seconds; deadline 
 abbrev pub leases_of : List LiveLease → List Lease
 leases_of live = map lease_of live
 
--- no deadline is before the time
-abbrev pub IsBefore : ℕ → List Lease → Type 0
-IsBefore time live = AllByRecursion (λ (lease : Lease). time ≤ lease.deadline) live
-
--- what holds of the fields of every value
-pub record IsKept (live : List Lease) (last soonest : ℕ) : Type 0 where
-  pub numbered : IsNumbered 0 live last
-  pub before : IsBefore soonest live
+-- no deadline is after the time
+abbrev pub IsWithin : ℕ → List Lease → Type 0
+IsWithin time live = AllByRecursion (λ (lease : Lease). lease.deadline ≤ time) live
 
 -- the place of the lease with the number, where it is live
 abbrev pub IsPlace : List Lease → ℕ → Option ℕ → Type 0

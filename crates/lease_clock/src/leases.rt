@@ -1,7 +1,8 @@
-ghost use Rattle.std.specs.Prelude.{◌≡◌, ◌≤◌, ◌<◌, ◌+◌, ◌↔◌, ℕ, [], false, length, map, is_some, IsTrue, OnOk, OnErr, IfOk, IfSome, IfNone, OnSome, Some};
+ghost use Rattle.std.specs.Prelude.{◌≡◌, ◌≢◌, ◌≤◌, ◌<◌, ◌+◌, ◌↔◌, ℕ, [], false, length, map, is_some, IsTrue, OnOk, OnErr, IfOk, IfSome, IfNone, OnSome, Some};
 ghost use Rattle.std.specs.List.{list_any};
 ghost use Rattle.store_api.specs.Leases.{is_live_lease, advanced, deadline_of, due_leases, expired, granted, is_due, no_leases, renewed, revoked};
-ghost use Rattle.lease_clock.specs.Kept.{HasRanks, IsBefore, IsPlace, at_time, due_ranks, leases_of};
+ghost use Rattle.lease_clock.specs.Kept.{HasRanks, IsPlace, at_time, due_ranks, leases_of};
+ghost use Rattle.lease_clock.specs.Least.{IsSettled, IsTournament, Settles, least_at};
 ghost use Rattle.lease_clock.specs.Lapses.{IsNumbered};
 
 use mesh_base::Memory;
@@ -16,6 +17,9 @@ struct LiveLease {
     /// The time to live that was granted.
     seconds: u64,
     deadline: u64,
+    /// The least deadline of this lease and of those under it, where those under the place `i` stand
+    /// at `2 * i + 1` and `2 * i + 2` and under these.
+    least: u64,
 }
 
 /// A clock in seconds, and the live leases.
@@ -25,11 +29,9 @@ struct LiveLease {
 #[derive(Debug, Drop)]
 pub struct Leases {
     clock: u64,
-    /// In order of their numbers.
+    /// In order of their numbers. The first one keeps the least deadline of all.
     live: Vec<LiveLease>,
     last: u64,
-    /// No live lease has its deadline before this time.
-    soonest: u64,
 }
 
 impl Model for Leases {
@@ -37,11 +39,12 @@ impl Model for Leases {
 
     ghost Value = { LeaseTable };
 
-    ghost use Rattle.lease_clock.specs.Kept.{IsKept, leases_of};
+    ghost use Rattle.lease_clock.specs.Kept.{leases_of};
+    ghost use Rattle.lease_clock.specs.Least.{IsKept};
 
     ghost view = { λ a. record { now = a.clock; live = leases_of a.live.items; last = a.last } };
 
-    ghost invariant = { λ a. IsKept (leases_of a.live.items) a.last a.soonest };
+    ghost invariant = { λ a. IsKept a.live.items a.last };
 }
 
 impl Leases {
@@ -53,7 +56,6 @@ impl Leases {
             clock: 0,
             live: Vec::new(alloc),
             last: 0,
-            soonest: u64::MAX,
         }
     }
 
@@ -81,7 +83,8 @@ impl Leases {
     /// Grants a lease of so many seconds, and answers its number (etcd: LeaseGrant).
     ///
     /// Numbers are granted from 1 upwards, and none twice. Once 2 ^ 64 - 1 is granted there is no
-    /// further one, and the answer is `Memory`. Constant, but for the growth of a vector.
+    /// further one, and the answer is `Memory`. Logarithmic in the live leases, but for the growth of
+    /// a vector.
     pub fn grant(&mut self, seconds: u64) -> Result<u64, Memory>
         requires { 1 ≤ seconds }
         ensures granted { OnOk result (self.new ≡ granted seconds self.old) }
@@ -91,14 +94,15 @@ impl Leases {
         let Some(number) = self.last.checked_add(1) else {
             return Err(Memory);
         };
-        let deadline = self.clock.saturating_add(seconds);
+        let place = self.live.len();
         self.live.push(LiveLease {
             number,
             seconds,
-            deadline,
+            deadline: self.clock.saturating_add(seconds),
+            least: u64::MAX,
         })?;
+        settle_up(&mut self.live, place);
         self.last = number;
-        self.soonest = self.soonest.min(deadline);
         Ok(number)
     }
 
@@ -115,36 +119,25 @@ impl Leases {
         let kept = &mut self.live[place];
         let deadline = self.clock.saturating_add(kept.seconds);
         kept.deadline = deadline;
-        self.soonest = self.soonest.min(deadline);
+        settle_up(&mut self.live, place);
         Some(deadline)
     }
 
-    /// Moves the clock. Takes no memory.
-    ///
-    /// Constant as long as the clock stays before the earliest deadline that was there when the
-    /// leases were last walked, and otherwise one walk over the live leases.
+    /// Moves the clock. Constant; takes no memory.
     pub fn advance(&mut self, seconds: u64)
         ensures { self.new ≡ advanced seconds self.old }
     {
         self.clock = self.clock.saturating_add(seconds);
-        if self.soonest <= self.clock {
-            self.soonest = earliest(&self.live);
-        }
     }
 
-    /// Whether a lease is due. Takes no memory.
-    ///
-    /// Constant right after `advance` where no lease is due, and otherwise one walk at most.
+    /// Whether a lease is due. Constant; takes no memory.
     pub fn has_due(&self) -> bool
         ensures { IsTrue result ↔ (0 < length (due_leases self.now)) }
     {
         self.has_due_at(self.clock)
     }
 
-    /// Whether a lease will be due so many seconds from now. Takes no memory.
-    ///
-    /// Constant where that is before the earliest deadline that was there when the leases were last
-    /// walked, and otherwise one walk at most.
+    /// Whether a lease will be due so many seconds from now. Constant; takes no memory.
     pub fn has_due_after(&self, seconds: u64) -> bool
         ensures { IsTrue result ↔ (0 < length (due_leases (advanced seconds self.now))) }
     {
@@ -167,17 +160,18 @@ impl Leases {
         self.due_at(alloc, self.clock.saturating_add(seconds))
     }
 
-    /// Ends every lease that is due. One walk over the live leases; takes no memory.
+    /// Ends every lease that is due. Linear in the live leases; takes no memory.
     pub fn expire(&mut self)
         ensures { self.new ≡ expired self.old }
     {
         let now = self.clock;
         self.live.retain(|lease| lease.deadline > now);
+        settle_all(&mut self.live);
     }
 
     /// Ends the lease, and answers whether it was live (etcd: LeaseRevoke).
     ///
-    /// Linear in the live leases granted after it; takes no memory.
+    /// Linear in the live leases; takes no memory.
     pub fn revoke(&mut self, lease: u64) -> bool
         ensures live { result ≡ is_live_lease self.old.live lease }
         ensures revoked { self.new ≡ revoked lease self.old }
@@ -185,6 +179,7 @@ impl Leases {
         match self.place(lease) {
             Some(place) => {
                 self.live.remove(place);
+                settle_all(&mut self.live);
                 true
             }
             None => false,
@@ -195,7 +190,7 @@ impl Leases {
     fn has_due_at(&self, time: u64) -> bool
         ensures { IsTrue result ↔ (0 < length (due_leases (at_time time self.now))) }
     {
-        self.soonest <= time && any_due(&self.live, time)
+        !self.live.is_empty() && least_at(&self.live, 0) <= time
     }
 
     // The leases that are due at this time, by deadline and then number.
@@ -216,27 +211,50 @@ impl Leases {
     }
 }
 
-// The earliest deadline, or the clock's last value.
-fn earliest(live: &[LiveLease]) -> u64
-    ensures { IsBefore result (leases_of live.now) }
+// The least deadline kept at the place, or the clock's last value where no lease stands.
+fn least_at(live: &[LiveLease], place: usize) -> u64
+    ensures { result ≡ least_at live.now place }
 {
-    let mut earliest = u64::MAX;
-    for lease in live {
-        earliest = earliest.min(lease.deadline);
+    match live.get(place) {
+        Some(lease) => lease.least,
+        None => u64::MAX,
     }
-    earliest
 }
 
-// Whether a lease is due at this time.
-fn any_due(live: &[LiveLease], now: u64) -> bool
-    ensures { result ≡ list_any (is_due now) (leases_of live.now) }
+// Keeps at the place the least of its own deadline and of what the two places under it keep.
+fn settle(live: &mut [LiveLease], place: usize)
+    requires { place < length live.old }
+    ensures { Settles live.old place live.new }
 {
-    for lease in live {
-        if lease.deadline <= now {
-            return true;
-        }
+    let left = least_at(live, 2 * place + 1);
+    let right = least_at(live, 2 * place + 2);
+    let kept = &mut live[place];
+    kept.least = kept.deadline.min(left).min(right);
+}
+
+// Settles the place, and those that it stands under up to the first one.
+fn settle_up(live: &mut [LiveLease], from: usize)
+    requires place { from < length live.old }
+    requires others { (place : ℕ) → place ≢ from → IsSettled live.old place }
+    ensures leases { leases_of live.new ≡ leases_of live.old }
+    ensures settled { IsTournament live.new }
+{
+    let mut place = from;
+    settle(live, place);
+    while place > 0 {
+        place = (place - 1) / 2;
+        settle(live, place);
     }
-    false
+}
+
+// Settles each place, those under it first.
+fn settle_all(live: &mut [LiveLease])
+    ensures leases { leases_of live.new ≡ leases_of live.old }
+    ensures settled { IsTournament live.new }
+{
+    for place in (0..live.len()).rev() {
+        settle(live, place);
+    }
 }
 
 // The deadline and number of each lease that is due at this time.

@@ -80,7 +80,7 @@ longer : (h more : History) (r : ℕ) (changes : List Change) → r ≤ revision
 longer h more r changes le is = subst (λ (live : Pairs). IsRevision live changes) (sym (fun_ext (λ k. live_longer h more r k le))) is
 
 module _ (h : History) (formed : IsFormed h) where
-  with_one : (changes : List Change) → IsRevision (live_at h (revision h)) changes → IsFormed (h ++ changes ∷ [])
+  pub with_one : (changes : List Change) → IsRevision (live_at h (revision h)) changes → IsFormed (h ++ changes ∷ [])
   with_one changes is = λ r one lt.
       let le : r ≤ revision h = omega (arith, length-append h (changes ∷ [])) in
       elim (below_or_at r (revision h) le) [

@@ -1,8 +1,10 @@
 mod Calls
+pub mod CallerLemmas
 mod Expiry
 mod Forms
 mod Fronts
 mod Indexes
+mod Journals
 mod Keeping
 mod Logs
 mod Sets

@@ -2,12 +2,13 @@
 //!
 //! `live` has the pairs that are live, `attached` their leases, `listing` the pairs of some ranges,
 //! `watch` what a watch delivers of the history, `lapses` what leases delete as they lapse, `log`
-//! what was done, which contracts alone see, `store` the store with its history, and `laws` what
-//! holds of every history.
+//! what was done, which contracts alone see, `journal` the revisions of a journal, `store` the store
+//! with its history, and `laws` what holds of every history.
 //! It knows nothing of clusters, key paths or threads.
 #![tactic(auto)]
 
 mod attached;
+mod journal;
 mod lapses;
 mod laws;
 mod listing;

@@ -71,7 +71,7 @@ pub fn apply_changes(alloc: Global, current: &mut Current, changes: &[Change]) -
 }
 
 /// What is live after the revisions.
-fn live_after(alloc: Global, history: &[Made]) -> Result<Current, Memory>
+pub fn live_after(alloc: Global, history: &[Made]) -> Result<Current, Memory>
     ensures { IfOk result (IsCurrentIn (history_in history.now)) }
 {
     let mut current = Current::new(alloc);

@@ -6,11 +6,13 @@ ghost use Rattle.store_api.specs.Contents.{after_commit, after_compact, after_gr
 ghost use Rattle.store_api.specs.Leases.{is_live_lease};
 ghost use Rattle.memory_store.specs.Entries.{Compacted, Granted, KeptAlive, Ticked, contents_of};
 ghost use Rattle.memory_store.specs.Formed.{IsFormed};
+ghost use Rattle.memory_store.specs.Journal.{IsJournal, contents_of_journal, log_of_journal};
 ghost use Rattle.memory_store.specs.Stored.{history_of, leases_of, logged, meaning_of};
 
+use crate::journal::{Replayed, replay, with_compaction};
 use crate::lapses::lapses;
 use crate::listing::listed;
-use crate::live::{Current, Made, apply_changes, changes_over, dead_lease, live_now};
+use crate::live::{Current, Made, apply_changes, changes_over, dead_lease, live_after, live_now};
 use crate::log::Log;
 use crate::watch::delivered;
 use lease_clock::Leases;
@@ -18,7 +20,7 @@ use mesh_base::{Count, Items, Memory};
 use std::alloc::Global;
 use std::marker::Model;
 use std::snapshot::Snapshot;
-use store_api::{Batch, Listing, MAX_OPS, Op, Ranges, Store, StoreAdmin, StoreFault};
+use store_api::{Batch, Listing, MAX_OPS, Op, Ranges, Revision, Store, StoreAdmin, StoreFault};
 
 /// The most revisions of one store, so that numbers stay below 2 ^ 63.
 const MOST_REVISIONS: usize = (1 << 63) - 2;
@@ -67,6 +69,39 @@ impl MemoryStore {
             log: Log::new(),
             calls: Count::new(),
         }
+    }
+
+    /// The store that a journal made: its revisions, each by its writer, and its history compacted up
+    /// to `compacted`. No lease was granted, and the clock is at 0.
+    ///
+    /// The revisions are numbered from 2 on; each changes something, no key twice, deletes live keys
+    /// alone and names no lease. `compacted` is at most the last number, or 1 without revisions.
+    /// Linear in the journal, times the logarithm of the live keys.
+    pub fn from_journal(
+        alloc: Global,
+        journal: Vec<Revision>,
+        compacted: u64,
+    ) -> Result<MemoryStore, Memory>
+        requires { IsJournal journal.items compacted }
+
+        ensures log { IfOk result (λ store. store.log ≡ log_of_journal journal.items compacted) }
+        ensures contents { IfOk result (λ store. (⟦<MemoryStore as Store>⟧.meaning store).contents ≡ contents_of_journal journal.items compacted) }
+        ensures faults { IfOk result (λ store. (⟦<MemoryStore as Store>⟧.meaning store).faults ≡ 0) }
+        ensures calls { IfOk result (λ store. (⟦<MemoryStore as Store>⟧.meaning store).calls ≡ 0) }
+        ensures told { IfOk result (λ store. (⟦<MemoryStore as Store>⟧.meaning store).told ≡ None) }
+        ensures quiet { IfOk result (λ store. (⟦<MemoryStore as Store>⟧.meaning store).quiet ≡ true) }
+        ensures writable { IfOk result (λ store. (k : List ℕ) → (⟦<MemoryStore as Store>⟧.meaning store).writable k ≡ true) }
+    {
+        let Replayed { history, log } = replay(alloc, journal)?;
+        let current = live_after(alloc, history.as_slice())?;
+        Ok(MemoryStore {
+            history,
+            compacted,
+            leases: Leases::new(alloc),
+            current: Some(current),
+            log: with_compaction(log, compacted),
+            calls: Count::new(),
+        })
     }
 
     /// Each revision changes something, no key twice, and deletes live keys alone.
@@ -122,8 +157,8 @@ impl MemoryStore {
 
     /// `grant` by this writer.
     ///
-    /// Once 2 ^ 64 - 1 leases are granted, the answer is `Memory`. Constant, but for the growth of a
-    /// vector.
+    /// Once 2 ^ 64 - 1 leases are granted, the answer is `Memory`. Logarithmic in the live leases, but
+    /// for the growth of a vector.
     pub fn grant_as(&mut self, writer: u32, seconds: u64) -> Result<u64, StoreFault>
         requires { 1 ≤ seconds }
 
@@ -164,9 +199,9 @@ impl MemoryStore {
 
     /// `tick` by this writer.
     ///
-    /// Takes no memory where no lease is due, and is constant then, but for one walk over the live
-    /// leases at the first tick at or after the earliest deadline before it was moved. A lapse costs
-    /// its keys. A store at its last revision answers `Memory` to a tick that makes one.
+    /// Takes no memory where no lease is due, and is constant then. Where leases lapse it costs their
+    /// keys, and is linear in the live leases. A store at its last revision answers `Memory` to a tick
+    /// that makes one.
     pub fn tick_as(&mut self, alloc: Global, writer: u32, seconds: u64) -> Result<u64, StoreFault>
         ensures log { OnOk result (self.new.log ≡ self.old.log ++ Ticked writer seconds ∷ []) }
         ensures contents { OnOk result (contents_of self.new.log ≡ after_tick seconds (contents_of self.old.log)) }

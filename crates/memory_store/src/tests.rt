@@ -1,6 +1,8 @@
 ghost use Rattle.std.specs.Prelude.{◌≡◌, ◌≤◌, IfOk};
 ghost use Rattle.store_api.specs.History.{key_of};
 
+mod journals;
+
 use crate::MemoryStore;
 use mesh_base::{Bytes, Items, Memory};
 use std::alloc::{AllocError, Global};

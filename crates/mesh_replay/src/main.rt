@@ -1,27 +1,32 @@
 //! Replays scenarios of a mesh of clusters over stores in memory, and writes reports of what the agent has sighted.
 //!
-//! `status` says how the program ends. `splitting`, `scenario` and `reading` are the scenario
-//! language, `streams` and `input` read it and tell why a text is none. `keys` and `checks` say
-//! which pairs count, `lines` and `report` write a report, `steps` runs a scenario's actions over
-//! any stores, and `top` is the whole program but for its adapters, which are here.
+//! `status` says how the program ends. `streams`, `input` and `telling` read a scenario and tell why a
+//! text is none. `remote` has what is kept of a remote cluster, `declaring` what its exporter declares,
+//! `exporters` and `agent` the calls that are made on its store through links, and `stores` those that are
+//! made straight. `replay` has what is kept of all remotes, `acting` what each line does, `sighting` and
+//! `reports` a report. `laws` says what holds of every turn, and `top` is the whole program but for its
+//! adapters, which are here.
 #![tactic(auto)]
 
-mod checks;
+mod acting;
+mod agent;
+mod declaring;
+mod exporters;
 mod input;
-mod keys;
-mod lines;
-mod reading;
-mod report;
-mod scenario;
-mod splitting;
+mod laws;
+mod remote;
+mod replay;
+mod reports;
+mod sighting;
 mod status;
-mod steps;
+mod stores;
 mod streams;
+mod telling;
 #[cfg(test)]
 mod tests;
 mod top;
 
-ghost use Rattle.std.specs.Prelude.{◌≡◌, length, All, IfOk};
+ghost use Rattle.std.specs.Prelude.{◌≡◌, length, map, All, IfOk};
 ghost use Rattle.mesh_replay.specs.Goes.{IsOpen};
 
 use memory_store::MemoryStore;
@@ -35,7 +40,7 @@ use top::mesh_steps;
 /// The local store and the stores of 255 remotes, all fresh.
 fn fresh_stores(alloc: Global) -> Result<Vec<MemoryStore>, Memory>
     ensures many { IfOk result (λ v. length v.items ≡ 256) }
-    ensures open { IfOk result (λ v. All (λ s. IsOpen (⟦<MemoryStore as Store>⟧.meaning s)) v.items) }
+    ensures open { IfOk result (λ v. All IsOpen (map ⟦<MemoryStore as Store>⟧.meaning v.items)) }
 {
     let mut stores = Vec::with_capacity(alloc, 256)?;
     for place in 0..256usize {
@@ -64,7 +69,7 @@ fn words_of(rt: &HostRuntime) -> io::Result<Vec<String>> {
     Ok(words)
 }
 
-fn replay(rt: &HostRuntime) -> Status {
+fn serve(rt: &HostRuntime) -> Status {
     let alloc = rt.alloc();
     let Ok(words) = words_of(rt) else {
         return Status::Memory;
@@ -84,5 +89,5 @@ fn replay(rt: &HostRuntime) -> Status {
 }
 
 fn main(rt: HostRuntime) -> ExitCode {
-    ExitCode::from(status_number(replay(&rt)))
+    ExitCode::from(status_number(serve(&rt)))
 }

@@ -1,11 +1,4 @@
-/// Why an input is no scenario.
-#[derive(Clone, Copy, Debug, PartialEq, Eq)]
-pub enum LineKind {
-    /// The line is not the one wanted at its place, or there is none.
-    Words,
-    /// The input has more than 16,777,216 bytes; the line is 0 then.
-    TooLong,
-}
+use scenario_lang::LineKind;
 
 /// How the program ends.
 #[derive(Clone, Copy, Debug, PartialEq, Eq)]
@@ -14,12 +7,12 @@ pub enum Status {
     Done,
     /// The words are none that the program serves; the usage line is written.
     Usage,
-    /// The input is no scenario, by its first such line; the line that says so is written.
+    /// The input is no scenario, by its first fault; the line that says so is written.
     Scenario { line: u64, kind: LineKind },
     /// Reading failed; nothing is written.
     ReadFault,
-    /// Writing failed.
+    /// Writing failed; a front of what was to be written is written.
     WriteFault,
-    /// Memory was wanted, and there was none.
+    /// Memory was wanted, and there was none; nothing is written.
     Memory,
 }

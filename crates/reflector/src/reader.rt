@@ -4,6 +4,7 @@ ghost use Rattle.store_api.specs.Contents.{unchanged};
 ghost use Rattle.store_api.specs.History.{revision};
 ghost use Rattle.store_api.specs.Meaning.{Keeps, Makes, MayMake};
 ghost use Rattle.store_api.specs.Spans.{Record, unread};
+ghost use Rattle.reflector.specs.Crossing.{asked, end_of};
 ghost use Rattle.reflector.specs.Reader.{Stands};
 ghost use Rattle.reflector.specs.Turns.{IsAnswer, ReadsIf, after_turn, delivery_of, followed};
 
@@ -105,6 +106,7 @@ impl Reflector {
         ensures lost { result ≡ Ok Turn.Lost → MayMake (S.meaning store.old) (S.meaning store.new) unchanged }
         ensures refused { OnErr result (Makes (S.meaning store.old) (S.meaning store.new) unchanged) }
 
+        ensures crossed { IfOk result (λ turn. S.crossed store.old store.new (asked self.old) (end_of turn)) }
         ensures keeps { Keeps (S.meaning store.old) (S.meaning store.new) }
         ensures named { S.name store.new ≡ S.name store.old }
         ensures loans { S.loans store.new ≡ S.loans store.old }
@@ -123,6 +125,7 @@ impl Reflector {
         ensures made { IfOk result (λ turn. turn ≢ Turn.Lost → Makes (S.meaning store.old) (S.meaning store.new) unchanged) }
         ensures lost { result ≡ Ok Turn.Lost → MayMake (S.meaning store.old) (S.meaning store.new) unchanged }
         ensures refused { OnErr result (Makes (S.meaning store.old) (S.meaning store.new) unchanged) }
+        ensures crossed { IfOk result (λ turn. S.crossed store.old store.new (asked self.now) (end_of turn)) }
         ensures keeps { Keeps (S.meaning store.old) (S.meaning store.new) }
         ensures named { S.name store.new ≡ S.name store.old }
         ensures loans { S.loans store.new ≡ S.loans store.old }
@@ -142,6 +145,7 @@ impl Reflector {
         ensures made { IfOk result (λ turn. turn ≢ Turn.Lost → Makes (S.meaning store.old) (S.meaning store.new) unchanged) }
         ensures lost { result ≡ Ok Turn.Lost → MayMake (S.meaning store.old) (S.meaning store.new) unchanged }
         ensures refused { OnErr result (Makes (S.meaning store.old) (S.meaning store.new) unchanged) }
+        ensures crossed { IfOk result (λ turn. S.crossed store.old store.new (asked self.now) (end_of turn)) }
         ensures keeps { Keeps (S.meaning store.old) (S.meaning store.new) }
         ensures named { S.name store.new ≡ S.name store.old }
         ensures loans { S.loans store.new ≡ S.loans store.old }
@@ -164,6 +168,7 @@ impl Reflector {
         ensures made { IfOk result (λ turn. turn ≢ Turn.Lost → Makes (S.meaning store.old) (S.meaning store.new) unchanged) }
         ensures lost { result ≡ Ok Turn.Lost → MayMake (S.meaning store.old) (S.meaning store.new) unchanged }
         ensures refused { OnErr result (Makes (S.meaning store.old) (S.meaning store.new) unchanged) }
+        ensures crossed { IfOk result (λ turn. S.crossed store.old store.new (asked self.now) (end_of turn)) }
         ensures keeps { Keeps (S.meaning store.old) (S.meaning store.new) }
         ensures named { S.name store.new ≡ S.name store.old }
         ensures loans { S.loans store.new ≡ S.loans store.old }

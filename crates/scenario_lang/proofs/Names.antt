@@ -13,7 +13,7 @@ use Rattle.std.specs.Cmp.{Equal-is}
 use Rattle.std.proofs.lemmas.List.{length-map}
 use Rattle.mesh_base.specs.Order.{same_bytes}
 use Rattle.scenario_lang.specs.declared.scenario.Remote.{Remote}
-use Rattle.scenario_lang.specs.Forms.{names_of}
+use Rattle.scenario_lang.specs.Clusters.{names_of}
 
 -- the first place, or else the second
 or_else : Option ℕ → Option ℕ → Option ℕ

@@ -5,7 +5,7 @@ use Rattle.std.specs.Cmp.Lexicographic.{nat_list_cmp_total}
 use Rattle.std.proofs.lemmas.Bool.{leb-false}
 use Rattle.std.proofs.lemmas.Cmp.{eq_by_cmp_equiv}
 use Rattle.std.proofs.lemmas.List.{map_push}
-use Rattle.std.proofs.lemmas.List.Elements.{All-nil, All-weaker, All-push}
+use Rattle.std.proofs.lemmas.List.Elements.{All-nil, All-push}
 use Rattle.std.proofs.lemmas.List.Folds.{list_any-append}
 use Rattle.std.proofs.lemmas.Map.Keys.{IsDistinct-push}
 use Rattle.mesh_base.specs.Order.{same_bytes}
@@ -22,13 +22,12 @@ use Rattle.scenario_lang.specs.declared.scenario.Remote.{Remote}
 use Rattle.scenario_lang.specs.declared.verb.Place.{Place}
 use Rattle.scenario_lang.specs.declared.verb.Place.TheVariants as place
 use Rattle.scenario_lang.specs.declared.verb.Verb.{Verb}
-use Rattle.scenario_lang.specs.Forms.{names_of}
+use Rattle.scenario_lang.specs.Clusters.{names_of, is_local_name}
 use Rattle.scenario_lang.specs.Judgement.{◌>>=◌, at_line, refused_if}
 use Rattle.scenario_lang.specs.Split.{lines, words}
 use Rattle.scenario_lang.specs.Table.{row, verb_of, may_follow}
-use Rattle.scenario_lang.specs.Lines.{Said, no_lines, after, after_line, is_local_name, repeats, turns_again, breaks_mode, exceeds, most_remotes, entry_said, row_said, verb_said, begins_comment, counted, words_said, is_printable, line_said, rest_said, complete, settled, lines_said, weight, refused_whole, scenario_of}
-use Rattle.scenario_lang.specs.Valid.{IsValid, IsActionOf, IsClusterNumber, IsToBillion}
-use Rattle.scenario_lang.proofs.Names.{names_length}
+use Rattle.scenario_lang.specs.Lines.{Said, no_lines, after, after_line, repeats, breaks_mode, exceeds, most_remotes, entry_said, row_said, verb_said, begins_comment, counted, words_said, is_printable, line_said, rest_said, complete, settled, lines_said, weight, refused_whole, scenario_of}
+use Rattle.scenario_lang.specs.Valid.{IsValid, IsActionOf, HasItsLink, IsClusterNumber, IsToBillion}
 use Rattle.scenario_lang.proofs.Shapely.{ok_bind, passed, given, ok_same}
 use Rattle.scenario_lang.proofs.Rows.{IsEntryAt, row_holds}
 
@@ -42,19 +41,25 @@ is_early place.Start = true
 is_early place.Mesh = true
 is_early _ = false
 
+abbrev is_action_place : Place → Bool
+is_action_place place.Actions = true
+is_action_place _ = false
+
 -- what holds of the lines so far
 record IsSound (how : Mode) (d : Draft) : Type 0 where
   early : is_early d.last ≡ true → d.remotes ≡ []
+  acting : is_action_place d.last ≡ false → d.actions ≡ []
   apart : IsDistinct same_bytes (local_names d.local ++ names_of d.remotes)
   few : length d.remotes ≤ most_remotes how
   local : IfSome d.local (λ c. IsClusterNumber c.number)
   remotes : All (λ r. IsClusterNumber r.number) d.remotes
   lease : IfSome d.lease IsToBillion
   actions : All (IsActionOf (length d.remotes)) d.actions
+  links : All (HasItsLink d.remotes) d.actions
 
 sound_none : (how : Mode) → IsSound how no_lines
 unfolding IsDistinct
-sound_none how = record { early = λ _. refl; apart = tt; few = omega arith; local = tt; remotes = All-nil (λ r. IsClusterNumber r.number); lease = tt; actions = All-nil (IsActionOf 0) }
+sound_none how = record { early = λ _. refl; acting = λ _. refl; apart = tt; few = omega arith; local = tt; remotes = All-nil (λ r. IsClusterNumber r.number); lease = tt; actions = All-nil (IsActionOf 0); links = All-nil (HasItsLink []) }
 
 early_mesh : (l : Place) → may_follow l place.Mesh ≡ true → is_early l ≡ true
 early_mesh place.Start e = refl
@@ -75,19 +80,28 @@ early_local place.Actions e = absurd (let h : false ≡ true = e in cc)
 late : {A : Type 0} → false ≡ true → A
 late e = absurd (let h : false ≡ true = e in cc)
 
-one_more : (n : ℕ) (a : Action) → IsActionOf n a → IsActionOf (n + 1) a
-one_more n (action.Node remote name addresses) h = omega arith
-one_more n (action.Identity remote identity labels) h = omega arith
-one_more n (action.Address remote ip identity host pod) h = omega arith
-one_more n (action.Withdraw remote what) h = omega arith
-one_more n (action.Start remote) h = omega arith
-one_more n (action.Stop remote) h = omega arith
-one_more n (action.Keep remote) h = omega arith
-one_more n (action.Export remote count) h = (let less = h.0 in omega arith, h.1)
-one_more n (action.Raw remote write) h = omega arith
-one_more n (action.Tick seconds) h = h
-one_more n (action.Turn remote) h = omega arith
-one_more n action.Report h = tt
+not_acting : (l p : Place) → may_follow l p ≡ true → is_action_place p ≡ false → is_action_place l ≡ false
+not_acting place.Start p e h = refl
+not_acting place.Mesh p e h = refl
+not_acting place.Local p e h = refl
+not_acting place.Lease p e h = refl
+not_acting place.Remotes p e h = refl
+not_acting place.Actions place.Start e h = absurd (let g : false ≡ true = e in cc)
+not_acting place.Actions place.Mesh e h = absurd (let g : false ≡ true = e in cc)
+not_acting place.Actions place.Local e h = absurd (let g : false ≡ true = e in cc)
+not_acting place.Actions place.Lease e h = absurd (let g : false ≡ true = e in cc)
+not_acting place.Actions place.Remotes e h = absurd (let g : false ≡ true = e in cc)
+not_acting place.Actions place.Actions e h = absurd (let g : true ≡ false = h in cc)
+
+-- before a line that is no action there is no action
+no_actions : (how : Mode) (d : Draft) (p q : Place) → IsSound how d → may_follow d.last p ≡ true → p ≡ q → is_action_place q ≡ false → d.actions ≡ []
+no_actions how d p q s follows is other = s.acting (not_acting d.last q (subst (λ k. may_follow d.last k ≡ true) is follows) other)
+
+-- a link that is named is one that the remote has
+linked : (how : Mode) (d : Draft) (a : Action) → breaks_mode how d (entry.Act a) ≡ false → HasItsLink d.remotes a
+linked how d (action.Link remote link up) e = e
+linked how d (action.Fail remote link skip moment) e = e
+linked how d _ e = tt
 
 local_named : (name : List ℕ) (o : Option Cluster) → is_local_name name o ≡ list_any (same_bytes name) (local_names o)
 local_named name None = refl
@@ -111,28 +125,72 @@ pushed_length [] r = refl
 pushed_length (x ∷ xs) r = let e = pushed_length xs r in omega arith
 
 sound_after : (how : Mode) (n : ℕ) (d : Draft) (e : Entry) (p : Place) → IsSound how d → may_follow d.last p ≡ true → IsEntryAt p (length d.remotes) e
-    → repeats d e ≡ false → exceeds how d e ≡ false → IsSound how (after n d e)
+    → repeats d e ≡ false → breaks_mode how d e ≡ false → exceeds how d e ≡ false → IsSound how (after n d e)
 unfolding IsDistinct
-sound_after how n d entry.Mesh p s follows is single few =
-    record { early = λ _. s.early (early_mesh d.last (subst (λ q. may_follow d.last q ≡ true) is follows)); apart = s.apart; few = s.few; local = s.local; remotes = s.remotes; lease = s.lease; actions = s.actions }
-sound_after how n d (entry.Local c) p s follows is single few =
+sound_after how n d entry.Mesh p s follows is single works few =
+    record {
+      early = λ _. s.early (early_mesh d.last (subst (λ q. may_follow d.last q ≡ true) is follows));
+      acting = λ _. no_actions how d p place.Mesh s follows is refl;
+      apart = s.apart;
+      few = s.few;
+      local = s.local;
+      remotes = s.remotes;
+      lease = s.lease;
+      actions = s.actions;
+      links = s.links;
+    }
+sound_after how n d (entry.Local c) p s follows is single works few =
     let none : d.remotes ≡ [] = s.early (early_local d.last (subst (λ q. may_follow d.last q ≡ true) is.0 follows)) in
-    record { early = late; apart = subst (λ (rs : List Remote). IsDistinct same_bytes (c.name ∷ names_of rs)) (sym none) (tt, tt); few = s.few; local = is.1; remotes = s.remotes; lease = s.lease; actions = s.actions }
-sound_after how n d (entry.Lease seconds) p s follows is single few =
-    record { early = late; apart = s.apart; few = s.few; local = s.local; remotes = s.remotes; lease = is; actions = s.actions }
-sound_after how n d (entry.Remote r) p s follows is single few =
-    let more = pushed_length d.remotes r in
     record {
       early = late;
+      acting = λ _. no_actions how d p place.Local s follows is.0 refl;
+      apart = subst (λ (rs : List Remote). IsDistinct same_bytes (c.name ∷ names_of rs)) (sym none) (tt, tt);
+      few = s.few;
+      local = is.1;
+      remotes = s.remotes;
+      lease = s.lease;
+      actions = s.actions;
+      links = s.links;
+    }
+sound_after how n d (entry.Lease seconds) p s follows is single works few =
+    record {
+      early = late;
+      acting = λ _. no_actions how d p place.Lease s follows is.0 refl;
+      apart = s.apart;
+      few = s.few;
+      local = s.local;
+      remotes = s.remotes;
+      lease = is.1;
+      actions = s.actions;
+      links = s.links;
+    }
+sound_after how n d (entry.Remote r) p s follows is single works few =
+    let more = pushed_length d.remotes r in
+    let none : d.actions ≡ [] = no_actions how d p place.Remotes s follows is.0 refl in
+    let remotes = d.remotes ++ r ∷ [] in
+    record {
+      early = late;
+      acting = λ _. none;
       apart = remote_apart d.local d.remotes r s.apart single;
       few = let h = leb-false (most_remotes how) (length d.remotes) few in omega (arith, more, h);
       local = s.local;
-      remotes = All-push (λ (x : Remote). IsClusterNumber x.number) d.remotes r s.remotes is;
+      remotes = All-push (λ (x : Remote). IsClusterNumber x.number) d.remotes r s.remotes is.1;
       lease = s.lease;
-      actions = subst (λ m. All (IsActionOf m) d.actions) (sym more) (All-weaker (IsActionOf (length d.remotes)) (IsActionOf (length d.remotes + 1)) (one_more (length d.remotes)) d.actions s.actions);
+      actions = subst (All (IsActionOf (length remotes))) (sym none) (All-nil (IsActionOf (length remotes)));
+      links = subst (All (HasItsLink remotes)) (sym none) (All-nil (HasItsLink remotes));
     }
-sound_after how n d (entry.Act a) p s follows is single few =
-    record { early = late; apart = s.apart; few = s.few; local = s.local; remotes = s.remotes; lease = s.lease; actions = All-push (IsActionOf (length d.remotes)) d.actions a s.actions is }
+sound_after how n d (entry.Act a) p s follows is single works few =
+    record {
+      early = late;
+      acting = λ h. absurd (let g : true ≡ false = h in cc);
+      apart = s.apart;
+      few = s.few;
+      local = s.local;
+      remotes = s.remotes;
+      lease = s.lease;
+      actions = All-push (IsActionOf (length d.remotes)) d.actions a s.actions is;
+      links = All-push (HasItsLink d.remotes) d.actions a s.links (linked how d a works);
+    }
 
 -- what a line that says something has
 record IsJudged (how : Mode) (d : Draft) (e : Entry) : Type 0 where
@@ -140,6 +198,7 @@ record IsJudged (how : Mode) (d : Draft) (e : Entry) : Type 0 where
   follows : may_follow d.last at ≡ true
   is : IsEntryAt at (length d.remotes) e
   single : repeats d e ≡ false
+  works : breaks_mode how d e ≡ false
   few : exceeds how d e ≡ false
 
 not_false : (b : Bool) → not b ≡ false → b ≡ true
@@ -150,17 +209,16 @@ row_judged : (how : Mode) (d : Draft) (v : Verb) (ws : List (List ℕ)) (e : Ent
 unfolding row_said
 row_judged how d v ws e is =
     let rest = λ (x : Entry). entry_said how d x in
-    let says = (row v).line.says (names_of d.remotes) ws in
+    let says = (row v).line.says d ws in
     let a = passed (not ((row v).line.fits ws)) kind.Words (λ _. refused_if (not (may_follow d.last (row v).place)) kind.Header >>= λ _. says >>= rest) e is in
     let b = passed (not (may_follow d.last (row v).place)) kind.Header (λ _. says >>= rest) e a.1 in
     let c = ok_bind says rest e b.1 in
-    let f = passed (turns_again d c.0) kind.Words (λ _. refused_if (repeats d c.0) kind.Repeated >>= λ _. refused_if (breaks_mode how c.0) kind.Mode >>= λ _. refused_if (exceeds how d c.0) kind.TooManyRemotes >>= λ _. Ok c.0) e c.2 in
-    let g = passed (repeats d c.0) kind.Repeated (λ _. refused_if (breaks_mode how c.0) kind.Mode >>= λ _. refused_if (exceeds how d c.0) kind.TooManyRemotes >>= λ _. Ok c.0) e f.1 in
-    let h = passed (breaks_mode how c.0) kind.Mode (λ _. refused_if (exceeds how d c.0) kind.TooManyRemotes >>= λ _. Ok c.0) e g.1 in
+    let g = passed (repeats d c.0) kind.Repeated (λ _. refused_if (breaks_mode how d c.0) kind.Mode >>= λ _. refused_if (exceeds how d c.0) kind.TooManyRemotes >>= λ _. Ok c.0) e c.2 in
+    let h = passed (breaks_mode how d c.0) kind.Mode (λ _. refused_if (exceeds how d c.0) kind.TooManyRemotes >>= λ _. Ok c.0) e g.1 in
     let i = passed (exceeds how d c.0) kind.TooManyRemotes (λ _. Ok c.0) e h.1 in
     let same : c.0 ≡ e = ok_same c.0 e i.1 in
-    let facts = (row_holds v).words (names_of d.remotes) ws c.0 c.1 in
-    subst (IsJudged how d) same (record { at = (row v).place; follows = not_false _ b.0; is = subst (λ m. IsEntryAt (row v).place m c.0) (names_length d.remotes) facts; single = g.0; few = i.0 })
+    let facts = (row_holds v).words d ws c.0 c.1 in
+    subst (IsJudged how d) same (record { at = (row v).place; follows = not_false _ b.0; is = facts; single = g.0; works = h.0; few = i.0 })
 
 some_same : (x y : Entry) → given (Some x) ≡ given (Some y) → x ≡ y
 some_same x y e = cc
@@ -187,7 +245,7 @@ line_judged how d line e is =
 
 sound_line : (how : Mode) (n : ℕ) (d : Draft) (line : List ℕ) (said : Option Entry) → IsSound how d → line_said how d line ≡ Ok said → IsSound how (after_line n d said)
 sound_line how n d line None s is = s
-sound_line how n d line (Some e) s is = let j = line_judged how d line e is in sound_after how n d e j.at s j.follows j.is j.single j.few
+sound_line how n d line (Some e) s is = let j = line_judged how d line e is in sound_after how n d e j.at s j.follows j.is j.single j.works j.few
 
 in_line : {A : Type 0} (n : ℕ) (r : Result A LineKind) (x : A) → at_line n r ≡ Ok x → r ≡ Ok x
 in_line n (Ok y) x e = cc
@@ -204,6 +262,7 @@ whole_valid how n d (Some c) said is s e =
       remotes = s.remotes;
       lease = s.lease;
       actions = s.actions;
+      links = s.links;
     })
 
 lines_valid : (how : Mode) (n : ℕ) (d : Draft) (pieces : List (List ℕ)) (said : Said) → IsSound how d → lines_said how d n pieces ≡ Ok said → IsValid how said

@@ -1,7 +1,7 @@
 -- The forms of a word: what Words judges in it, and what it says or which fault it has.
 -- The language is this project's own; names of clusters are Cilium's, names of nodes, namespaces and
 -- pods those of Kubernetes, addresses RFC 4291's, labels after Cilium's identities in the kvstore.
-use Rattle.std.specs.Prelude.{ℕ, ◌-◌, ◌^◌, ◌&&◌, Bool, true, false, is_some, nat_lt, nat_le, bytes_eq, List, length, map, codes, Option, Some, None, option_and_then, position, Result, Ok, Err, if◌then◌else◌}
+use Rattle.std.specs.Prelude.{ℕ, ◌-◌, ◌^◌, ◌&&◌, Bool, true, false, is_some, nat_lt, nat_le, bytes_eq, List, length, codes, Option, Some, None, option_and_then, position, Result, Ok, Err, if◌then◌else◌}
 use Rattle.mesh_base.specs.Order.{same_bytes}
 use Rattle.mesh_text.specs.declared.ip.Ip.{Ip}
 use Rattle.mesh_text.specs.Names.{is_cluster_name, is_part_name}
@@ -12,29 +12,34 @@ use Rattle.mesh_records.specs.declared.records.IdentityRecord.{IdentityRecord}
 use Rattle.mesh_records.specs.Identity.{identity_of}
 use Rattle.key_paths.specs.declared.hop.Hop.{Hop}
 use Rattle.key_paths.specs.declared.hop.Hop.TheVariants.{State}
+use Rattle.scenario_lang.specs.declared.draft.Draft.{Draft}
 use Rattle.scenario_lang.specs.declared.kinds.LineKind.{LineKind}
 use Rattle.scenario_lang.specs.declared.kinds.LineKind.TheVariants as kind
+use Rattle.scenario_lang.specs.declared.scenario.Cluster.{Cluster}
 use Rattle.scenario_lang.specs.declared.scenario.Count.{Count}
 use Rattle.scenario_lang.specs.declared.scenario.Count.TheVariants as count
-use Rattle.scenario_lang.specs.declared.scenario.Remote.{Remote}
+use Rattle.scenario_lang.specs.declared.scenario.LinkName.{LinkName}
+use Rattle.scenario_lang.specs.declared.scenario.LinkName.TheVariants as link_name
+use Rattle.scenario_lang.specs.declared.scenario.Moment.{Moment}
+use Rattle.scenario_lang.specs.declared.scenario.Moment.TheVariants as moment_of
+use Rattle.scenario_lang.specs.declared.scenario.StoreOf.{StoreOf}
+use Rattle.scenario_lang.specs.declared.scenario.StoreOf.TheVariants as store_of
+use Rattle.scenario_lang.specs.Clusters.{Names, names_of, is_local_name}
 use Rattle.scenario_lang.specs.Judgement.{◌>>=◌, or_fault}
 
--- the names of the remotes so far, in order
-abbrev pub Names : Type 0
-Names = List (List ℕ)
-
-abbrev pub names_of : List Remote → Names
-names_of remotes = map (λ r. r.name) remotes
-
 -- whether a word has the look that Words judges in a whole line, before anything else of it; and
--- what a word of that look says, or its fault
+-- what a word of that look says behind the lines so far, or its fault
 pub record Form (A : Type 0) : Type 0 where
   pub looks : List ℕ → Bool
-  pub says : Names → List ℕ → Result A LineKind
+  pub says : Draft → List ℕ → Result A LineKind
 
 -- a form of which every word has the look
 abbrev pub plain : {A : Type 0} → (List ℕ → Result A LineKind) → Form A
-plain says = record { looks = λ word. true; says = λ names word. says word }
+plain says = record { looks = λ word. true; says = λ draft word. says word }
+
+-- a form of which Words judges all
+abbrev pub fixed : {A : Type 0} → (List ℕ → Option A) → Form A
+fixed read = record { looks = λ word. is_some (read word); says = λ draft word. or_fault (read word) kind.Words }
 
 abbrev pub cluster_name_said : List ℕ → Result (List ℕ) LineKind
 cluster_name_said word = if is_cluster_name word then Ok word else Err kind.Name
@@ -45,6 +50,13 @@ part_name_said word = if is_part_name word then Ok word else Err kind.Name
 -- the place of a remote, by its name
 abbrev pub remote_said : Names → List ℕ → Result ℕ LineKind
 remote_said names word = cluster_name_said word >>= λ name. or_fault (position (same_bytes name) names) kind.UnknownCluster
+
+-- the store of the local cluster or of a remote, by the cluster's name
+abbrev pub store_said : Option Cluster → Names → List ℕ → Result StoreOf LineKind
+store_said local names word =
+    cluster_name_said word >>= λ name.
+    if is_local_name name local then Ok store_of.Local
+    else (or_fault (position (same_bytes name) names) kind.UnknownCluster >>= λ place. Ok (store_of.Remote place))
 
 -- the number that a canonical decimal writes, where it stands within these bounds
 abbrev pub whole_of : ℕ → ℕ → List ℕ → Option ℕ
@@ -84,6 +96,27 @@ read_in (Err fault) = None
 abbrev pub labels_of : List ℕ → Option IdentityRecord
 labels_of word = option_and_then (λ bytes. read_in (identity_of bytes)) (unescaped word)
 
+abbrev pub link_named : List ℕ → Option LinkName
+link_named word =
+    if bytes_eq word (codes "exporter") then Some link_name.Exporter
+    else if bytes_eq word (codes "remote") then Some link_name.Remote
+    else if bytes_eq word (codes "local") then Some link_name.Local
+    else if bytes_eq word (codes "agent") then Some link_name.Agent
+    else None
+
+-- whether a link is up
+abbrev pub way_named : List ℕ → Option Bool
+way_named word =
+    if bytes_eq word (codes "up") then Some true
+    else if bytes_eq word (codes "down") then Some false
+    else None
+
+abbrev pub moment_named : List ℕ → Option Moment
+moment_named word =
+    if bytes_eq word (codes "before") then Some moment_of.Before
+    else if bytes_eq word (codes "after") then Some moment_of.After
+    else None
+
 -- The forms.
 
 -- the one version of the language
@@ -96,7 +129,11 @@ cluster = plain cluster_name_said
 
 -- a remote, by its name
 abbrev pub remote : Form ℕ
-remote = record { looks = λ word. true; says = remote_said }
+remote = record { looks = λ word. true; says = λ draft word. remote_said (names_of draft.remotes) word }
+
+-- a store, by the name of its cluster
+abbrev pub store : Form StoreOf
+store = record { looks = λ word. true; says = λ draft word. store_said draft.local (names_of draft.remotes) word }
 
 -- the name of a node, a namespace or a pod
 abbrev pub part : Form (List ℕ)
@@ -107,6 +144,13 @@ cluster_number = plain (whole_said 1 255)
 
 abbrev pub seconds : Form ℕ
 seconds = plain (whole_said 1 1000000000)
+
+abbrev pub revision : Form ℕ
+revision = plain (whole_said 1 1000000000)
+
+-- how many calls go through before one fails
+abbrev pub skip : Form ℕ
+skip = plain (whole_said 0 1000000)
 
 abbrev pub identity : Form ℕ
 identity = plain (whole_said 0 (2 ^ 32 - 1))
@@ -122,16 +166,28 @@ host = plain host_said
 
 -- which store of a remote is watched
 abbrev pub hop : Form Hop
-hop = record { looks = λ word. bytes_eq word (codes "direct"); says = λ names word. Ok State }
+hop = record { looks = λ word. bytes_eq word (codes "direct"); says = λ draft word. Ok State }
 
 -- an escaped key with at least a byte
 abbrev pub key : Form (List ℕ)
-key = record { looks = λ word. has_bytes (unescaped word); says = λ names word. escaped_said 1024 word }
+key = record { looks = λ word. has_bytes (unescaped word); says = λ draft word. escaped_said 1024 word }
 
 -- an escaped value
 abbrev pub value : Form (List ℕ)
-value = record { looks = λ word. is_some (unescaped word); says = λ names word. escaped_said 32768 word }
+value = record { looks = λ word. is_some (unescaped word); says = λ draft word. escaped_said 32768 word }
 
 -- the escaped labels of an identity
 abbrev pub labels : Form IdentityRecord
-labels = record { looks = λ word. is_some (labels_of word); says = λ names word. or_fault (labels_of word) kind.Words }
+labels = fixed labels_of
+
+-- a link of a remote, by its name
+abbrev pub link : Form LinkName
+link = fixed link_named
+
+-- `up` or `down`
+abbrev pub way : Form Bool
+way = fixed way_named
+
+-- `before` or `after`
+abbrev pub moment : Form Moment
+moment = fixed moment_named

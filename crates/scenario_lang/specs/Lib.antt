@@ -1,5 +1,6 @@
 pub mod Judgement
 pub mod Split
+pub mod Clusters
 pub mod Forms
 pub mod Shapes
 pub mod Table

@@ -1,7 +1,9 @@
 -- What a text says, or its first fault.
-use Rattle.std.specs.Prelude.{ℕ, ◌+◌, ◌*◌, Bool, true, false, not, ◌&&◌, ◌||◌, ◌==◌, nat_lt, nat_le, List, [], ◌∷◌, ◌++◌, length, Option, Some, None, Result, Ok, Err, if◌then◌else◌}
+use Rattle.std.specs.Prelude.{ℕ, ◌+◌, ◌-◌, ◌*◌, Bool, true, false, not, ◌&&◌, ◌||◌, ◌==◌, nat_lt, nat_le, List, [], ◌∷◌, ◌++◌, length, slice_get, Option, Some, None, Result, Ok, Err, if◌then◌else◌}
 use Rattle.std.specs.List.{list_all, list_any}
 use Rattle.mesh_base.specs.Order.{same_bytes}
+use Rattle.key_paths.specs.declared.hop.Hop.{Hop}
+use Rattle.key_paths.specs.declared.hop.Hop.TheVariants as hop
 use Rattle.scenario_lang.specs.declared.draft.Draft.{Draft}
 use Rattle.scenario_lang.specs.declared.entry.Entry.{Entry}
 use Rattle.scenario_lang.specs.declared.entry.Entry.TheVariants as entry
@@ -13,11 +15,14 @@ use Rattle.scenario_lang.specs.declared.kinds.Mode.TheVariants as mode
 use Rattle.scenario_lang.specs.declared.scenario.Action.{Action}
 use Rattle.scenario_lang.specs.declared.scenario.Action.TheVariants as action
 use Rattle.scenario_lang.specs.declared.scenario.Cluster.{Cluster}
+use Rattle.scenario_lang.specs.declared.scenario.LinkName.{LinkName}
+use Rattle.scenario_lang.specs.declared.scenario.LinkName.TheVariants as link_name
+use Rattle.scenario_lang.specs.declared.scenario.Remote.{Remote}
 use Rattle.scenario_lang.specs.declared.scenario.Scenario.{Scenario}
 use Rattle.scenario_lang.specs.declared.verb.Place.TheVariants as place
 use Rattle.scenario_lang.specs.declared.verb.Verb.{Verb}
 use Rattle.scenario_lang.specs.Judgement.{◌>>=◌, refused_if, at_line}
-use Rattle.scenario_lang.specs.Forms.{names_of}
+use Rattle.scenario_lang.specs.Clusters.{names_of, is_local_name}
 use Rattle.scenario_lang.specs.Split.{lines, words}
 use Rattle.scenario_lang.specs.Table.{row, verb_of, may_follow}
 
@@ -29,17 +34,12 @@ Said = Scenario
 
 -- no line stands before
 abbrev pub no_lines : Draft
-no_lines = record { last = place.Start; local = None; lease = None; remotes = []; actions = []; turned = []; unsettled = None }
-
-abbrev pub turns_of : Action → List ℕ
-turns_of (action.Turn remote) = remote ∷ []
-turns_of _ = []
+no_lines = record { last = place.Start; local = None; lease = None; remotes = []; actions = []; unsettled = None }
 
 abbrev pub after_action : ℕ → Draft → Action → Draft
 after_action n draft a = record draft {
   last = place.Actions;
   actions = draft.actions ++ a ∷ [];
-  turned = draft.turned ++ turns_of a;
   unsettled = Some n;
 }
 
@@ -58,24 +58,41 @@ after_line n draft (Some e) = after n draft e
 
 -- The faults of a line.
 
-abbrev pub is_local_name : List ℕ → Option Cluster → Bool
-is_local_name name None = false
-is_local_name name (Some cluster) = same_bytes name cluster.name
-
 -- a remote has the name of the local cluster or of a remote before it
 abbrev pub repeats : Draft → Entry → Bool
 repeats draft (entry.Remote remote) = is_local_name remote.name draft.local || list_any (same_bytes remote.name) (names_of draft.remotes)
 repeats draft _ = false
 
--- a remote's turn is made a second time
-abbrev pub turns_again : Draft → Entry → Bool
-turns_again draft (entry.Act (action.Turn remote)) = list_any (λ place. place == remote) draft.turned
-turns_again draft _ = false
+abbrev pub is_direct : Hop → Bool
+is_direct hop.State = true
+is_direct hop.Cache = false
 
--- there is no `report` on threads
-abbrev pub breaks_mode : Mode → Entry → Bool
-breaks_mode (mode.Run probes) (entry.Act action.Report) = true
-breaks_mode _ _ = false
+-- a remote that is read from its own store has no worker of KVStoreMesh, and so none of its two links
+abbrev pub lacks_link : Option Remote → LinkName → Bool
+lacks_link (Some remote) link_name.Remote = is_direct remote.hop
+lacks_link (Some remote) link_name.Local = is_direct remote.hop
+lacks_link _ _ = false
+
+abbrev pub is_on_threads : Mode → Bool
+is_on_threads mode.Step = false
+is_on_threads (mode.Run probes) = true
+
+-- on threads the agent restarts before everything else, or after another restart
+abbrev pub may_restart_after : Option Action → Bool
+may_restart_after None = true
+may_restart_after (Some action.RestartAgent) = true
+may_restart_after (Some _) = false
+
+abbrev pub last_action : List Action → Option Action
+last_action actions = slice_get actions (length actions - 1)
+
+-- a link that the remote does not have; on threads, a `report` or a restart between other actions
+abbrev pub breaks_mode : Mode → Draft → Entry → Bool
+breaks_mode how draft (entry.Act (action.Link remote link up)) = lacks_link (slice_get draft.remotes remote) link
+breaks_mode how draft (entry.Act (action.Fail remote link skip moment)) = lacks_link (slice_get draft.remotes remote) link
+breaks_mode how draft (entry.Act action.Report) = is_on_threads how
+breaks_mode how draft (entry.Act action.RestartAgent) = is_on_threads how && not (may_restart_after (last_action draft.actions))
+breaks_mode how draft _ = false
 
 abbrev pub most_remotes : Mode → ℕ
 most_remotes mode.Step = 255
@@ -89,9 +106,8 @@ exceeds how draft _ = false
 -- a line whose words are right: the first of these faults counts
 abbrev pub entry_said : Mode → Draft → Entry → Result Entry LineKind
 entry_said how draft said = do
-  _ ← refused_if (turns_again draft said) kind.Words
   _ ← refused_if (repeats draft said) kind.Repeated
-  _ ← refused_if (breaks_mode how said) kind.Mode
+  _ ← refused_if (breaks_mode how draft said) kind.Mode
   _ ← refused_if (exceeds how draft said) kind.TooManyRemotes
   Ok said
 
@@ -100,7 +116,7 @@ unfoldable pub row_said : Mode → Draft → Verb → List (List ℕ) → Result
 row_said how draft v ws = do
   _ ← refused_if (not ((row v).line.fits ws)) kind.Words
   _ ← refused_if (not (may_follow draft.last (row v).place)) kind.Header
-  said ← (row v).line.says (names_of draft.remotes) ws
+  said ← (row v).line.says draft ws
   entry_said how draft said
 
 abbrev pub verb_said : Mode → Draft → Option Verb → List (List ℕ) → Result Entry LineKind
@@ -164,6 +180,10 @@ lines_said how draft n (line ∷ next ∷ more) = do
 -- heavy lines, of which each costs as much as the whole text is long
 abbrev pub is_heavy : Action → Bool
 is_heavy (action.Start remote) = true
+is_heavy (action.Compact store revision) = true
+is_heavy (action.Link remote link up) = not up
+is_heavy (action.Fail remote link skip moment) = true
+is_heavy action.RestartAgent = true
 is_heavy action.Report = true
 is_heavy _ = false
 

@@ -14,7 +14,7 @@ use Rattle.scenario_lang.specs.declared.verb.Verb.{Verb}
 use Rattle.scenario_lang.specs.declared.verb.Verb.TheVariants as verb
 use Rattle.scenario_lang.specs.declared.verb.Place.{Place}
 use Rattle.scenario_lang.specs.declared.verb.Place.TheVariants as place
-use Rattle.scenario_lang.specs.Forms.{version, cluster, remote, part, cluster_number, seconds, identity, count_or_all, address, host, hop, key, value, labels}
+use Rattle.scenario_lang.specs.Forms.{version, cluster, remote, part, cluster_number, seconds, revision, skip, identity, store, count_or_all, address, host, hop, key, value, labels, link, way, moment}
 use Rattle.scenario_lang.specs.Shapes.{Shape, none, one, ◌▸◌, word, many, or, makes}
 
 -- mesh 1
@@ -92,9 +92,25 @@ raw_line = makes (λ p. action.Raw p.0 p.1) (remote ▸ raw_write)
 abbrev pub tick_line : Shape Action
 tick_line = makes action.Tick (one seconds)
 
--- turn agent <remote> all
+-- compact <remote or local cluster> <revision>
+abbrev pub compact_line : Shape Action
+compact_line = makes (λ p. action.Compact p.0 p.1) (store ▸ one revision)
+
+-- link <remote> <link> <up or down>
+abbrev pub link_line : Shape Action
+link_line = makes (λ p. action.Link p.0 p.1.0 p.1.1) (remote ▸ link ▸ one way)
+
+-- fail <remote> <link> <skip> <before or after>
+abbrev pub fail_line : Shape Action
+fail_line = makes (λ p. action.Fail p.0 p.1.0 p.1.1.0 p.1.1.1) (remote ▸ link ▸ skip ▸ one moment)
+
+-- turn agent <remote> <count or all>
 abbrev pub turn_line : Shape Action
-turn_line = word (codes "agent") (makes (λ p. action.Turn p.0) (remote ▸ word (codes "all") none))
+turn_line = word (codes "agent") (makes (λ p. action.Turn p.0 p.1) (remote ▸ one count_or_all))
+
+-- restart agent
+abbrev pub restart_line : Shape Action
+restart_line = word (codes "agent") (makes (λ _. action.RestartAgent) none)
 
 -- report
 abbrev pub report_line : Shape Action
@@ -127,12 +143,17 @@ row verb.Keep = action_row (codes "keep") keep_line
 row verb.Export = action_row (codes "export") export_line
 row verb.Raw = action_row (codes "raw") raw_line
 row verb.Tick = action_row (codes "tick") tick_line
+row verb.Compact = action_row (codes "compact") compact_line
+row verb.Link = action_row (codes "link") link_line
+row verb.Fail = action_row (codes "fail") fail_line
 row verb.Turn = action_row (codes "turn") turn_line
+row verb.Restart = action_row (codes "restart") restart_line
 row verb.Report = action_row (codes "report") report_line
 
 abbrev pub verbs : List Verb
 verbs = verb.Mesh ∷ verb.Local ∷ verb.Lease ∷ verb.Remote ∷ verb.Node ∷ verb.Identity ∷ verb.Address ∷ verb.Withdraw
-    ∷ verb.Start ∷ verb.Stop ∷ verb.Keep ∷ verb.Export ∷ verb.Raw ∷ verb.Tick ∷ verb.Turn ∷ verb.Report ∷ []
+    ∷ verb.Start ∷ verb.Stop ∷ verb.Keep ∷ verb.Export ∷ verb.Raw ∷ verb.Tick ∷ verb.Compact ∷ verb.Link
+    ∷ verb.Fail ∷ verb.Turn ∷ verb.Restart ∷ verb.Report ∷ []
 
 -- the row that a line belongs to, by its first word
 unfoldable pub verb_of : List ℕ → Option Verb

@@ -1,14 +1,15 @@
-ghost use Rattle.std.specs.Prelude.{◌≡◌, ◌==◌, IfOk, false};
+ghost use Rattle.std.specs.Prelude.{◌≡◌, IfOk, false, slice_get};
 ghost use Rattle.std.specs.List.{list_any};
 ghost use Rattle.mesh_base.specs.Order.{same_bytes};
-ghost use Rattle.scenario_lang.specs.Forms.{names_of};
+ghost use Rattle.scenario_lang.specs.Clusters.{names_of, is_local_name};
 ghost use Rattle.scenario_lang.specs.Lines as lines;
 
 use crate::entry::Entry;
 use crate::kinds::Mode;
 use crate::remotes::Remotes;
-use crate::scenario::{Action, Cluster, Remote};
+use crate::scenario::{Action, Cluster, LinkName, Remote};
 use crate::verb::Place;
+use key_paths::Hop;
 use mesh_base::{Items, Memory};
 use mesh_text::ClusterName;
 use std::alloc::Global;
@@ -23,8 +24,6 @@ pub(crate) struct Draft {
     pub lease: Option<u64>,
     pub remotes: Remotes,
     pub actions: Items<Action>,
-    /// The places of the remotes that had their turn.
-    pub turned: Items<usize>,
     /// The line of the last action, where that is no `settle`; there is no `settle` yet.
     pub unsettled: Option<u64>,
 }
@@ -39,14 +38,13 @@ pub(crate) fn no_lines(alloc: Global) -> Draft
         lease: None,
         remotes: Remotes::new(alloc),
         actions: Items::new(alloc),
-        turned: Items::new(alloc),
         unsettled: None,
     }
 }
 
 #[tactic(auto, using(crate::proofs::Names::same_is))]
-fn is_local_name(name: &ClusterName, local: &Option<Cluster>) -> bool
-    ensures { result ≡ lines.is_local_name name.now local.now }
+pub(crate) fn is_local_name(name: &ClusterName, local: &Option<Cluster>) -> bool
+    ensures { result ≡ is_local_name name.now local.now }
 {
     match local {
         Some(cluster) => name.as_bytes() == cluster.name.as_bytes(),
@@ -74,29 +72,45 @@ pub(crate) fn repeats(draft: &Draft, entry: &Entry) -> bool
     }
 }
 
-fn contains(places: &[usize], remote: usize) -> bool
-    ensures { result ≡ list_any (λ place. place == remote) places.now }
+/// A remote that is read from its own store has neither link of KVStoreMesh's worker.
+fn lacks_link(remotes: &[Remote], place: usize, link: LinkName) -> bool
+    ensures { result ≡ lines.lacks_link (slice_get remotes.now place) link }
 {
-    places.iter().any(|place| *place == remote)
-}
-
-/// A remote's turn is made a second time.
-pub(crate) fn turns_again(draft: &Draft, entry: &Entry) -> bool
-    ensures { result ≡ lines.turns_again draft.now entry.now }
-{
-    match entry {
-        Entry::Act(Action::Turn { remote }) => contains(draft.turned.as_slice(), *remote),
+    match (remotes.get(place), link) {
+        (Some(remote), LinkName::Remote | LinkName::Local) => matches!(remote.hop, Hop::State),
         _ => false,
     }
 }
 
-/// There is no `report` on threads.
-pub(crate) fn breaks_mode(mode: Mode, entry: &Entry) -> bool
-    ensures { result ≡ lines.breaks_mode mode entry.now }
+fn is_on_threads(mode: Mode) -> bool
+    ensures { result ≡ lines.is_on_threads mode }
 {
-    match mode {
-        Mode::Step => false,
-        Mode::Run { .. } => matches!(entry, Entry::Act(Action::Report)),
+    matches!(mode, Mode::Run { .. })
+}
+
+/// The agent may restart behind these actions on threads.
+fn may_restart(actions: &[Action]) -> bool
+    ensures { result ≡ lines.may_restart_after (lines.last_action actions.now) }
+{
+    matches!(actions.last(), None | Some(Action::RestartAgent))
+}
+
+/// A link that the remote does not have; on threads, a `report` or a restart between other actions.
+pub(crate) fn breaks_mode(mode: Mode, draft: &Draft, entry: &Entry) -> bool
+    ensures { result ≡ lines.breaks_mode mode draft.now entry.now }
+{
+    match entry {
+        Entry::Act(Action::Link { remote, link, .. }) => {
+            lacks_link(draft.remotes.as_slice(), *remote, *link)
+        }
+        Entry::Act(Action::Fail { remote, link, .. }) => {
+            lacks_link(draft.remotes.as_slice(), *remote, *link)
+        }
+        Entry::Act(Action::Report) => is_on_threads(mode),
+        Entry::Act(Action::RestartAgent) => {
+            is_on_threads(mode) && !may_restart(draft.actions.as_slice())
+        }
+        _ => false,
     }
 }
 
@@ -130,7 +144,6 @@ fn after_remote(draft: Draft, remote: Remote) -> Result<Draft, Memory>
         lease,
         remotes,
         actions,
-        turned,
         unsettled,
     } = draft;
     let remotes = remotes.with(remote)?;
@@ -140,7 +153,6 @@ fn after_remote(draft: Draft, remote: Remote) -> Result<Draft, Memory>
         lease,
         remotes,
         actions,
-        turned,
         unsettled,
     })
 }
@@ -148,9 +160,6 @@ fn after_remote(draft: Draft, remote: Remote) -> Result<Draft, Memory>
 fn after_action(mut draft: Draft, line: u64, action: Action) -> Result<Draft, Memory>
     ensures { IfOk result (λ d. d ≡ lines.after_action line draft action) }
 {
-    if let Action::Turn { remote } = &action {
-        draft.turned.push(*remote)?;
-    }
     draft.actions.push(action)?;
     draft.last = Place::Actions;
     draft.unsettled = Some(line);

@@ -1,17 +1,17 @@
 // The line of each first word. Each reader is called for words that fit.
-ghost use Rattle.std.specs.Prelude.{◌≡◌, [], true};
+ghost use Rattle.std.specs.Prelude.{◌≡◌, true};
 ghost use Rattle.scenario_lang.specs.Answers.{Gives};
-ghost use Rattle.scenario_lang.specs.Forms.{names_of};
+ghost use Rattle.scenario_lang.specs.Lines.{no_lines};
 ghost use Rattle.scenario_lang.specs.Split.{words};
 ghost use Rattle.scenario_lang.specs.Table as table;
 
 use crate::actions::{
-    address_line, export, identity_line, keep, lone_seconds, node, raw, start, stop, tick, turn,
-    withdraw,
+    address_line, compact, export, fail, identity_line, keep, link, lone_seconds, node, raw,
+    restart, start, stop, tick, turn, withdraw,
 };
+use crate::draft::Draft;
 use crate::entry::Entry;
 use crate::kinds::LineKind;
-use crate::remotes::Remotes;
 use crate::scenario::{Action, Cluster, Remote};
 use crate::stops::Stop;
 use crate::verb::Verb;
@@ -20,7 +20,7 @@ use key_paths::Hop;
 use std::alloc::Global;
 
 fn mesh(rest: &[u8]) -> Result<Entry, Stop<LineKind>>
-    ensures { Gives result (table.mesh_line.says [] (words rest.now)) }
+    ensures { Gives result (table.mesh_line.says no_lines (words rest.now)) }
 {
     let (word, _) = first_word(rest)?;
     version(word)?;
@@ -28,7 +28,7 @@ fn mesh(rest: &[u8]) -> Result<Entry, Stop<LineKind>>
 }
 
 fn local(alloc: Global, rest: &[u8]) -> Result<Entry, Stop<LineKind>>
-    ensures { Gives result (table.local_line.says [] (words rest.now)) }
+    ensures { Gives result (table.local_line.says no_lines (words rest.now)) }
 {
     let (word, rest) = first_word(rest)?;
     let name = cluster_name(alloc, word)?;
@@ -38,7 +38,7 @@ fn local(alloc: Global, rest: &[u8]) -> Result<Entry, Stop<LineKind>>
 }
 
 fn remote(alloc: Global, rest: &[u8]) -> Result<Entry, Stop<LineKind>>
-    ensures { Gives result (table.remote_line.says [] (words rest.now)) }
+    ensures { Gives result (table.remote_line.says no_lines (words rest.now)) }
 {
     let (word, rest) = first_word(rest)?;
     let name = cluster_name(alloc, word)?;
@@ -56,29 +56,33 @@ fn remote(alloc: Global, rest: &[u8]) -> Result<Entry, Stop<LineKind>>
 #[tactic(auto, unfolding(crate::specs::Table::row))]
 pub(crate) fn row_entry(
     alloc: Global,
-    remotes: &Remotes,
+    draft: &Draft,
     verb: Verb,
     rest: &[u8],
 ) -> Result<Entry, Stop<LineKind>>
     requires { (table.row verb).line.fits (words rest.now) ≡ true }
-    ensures { Gives result ((table.row verb).line.says (names_of remotes.now) (words rest.now)) }
+    ensures { Gives result ((table.row verb).line.says draft.now (words rest.now)) }
 {
     match verb {
         Verb::Mesh => mesh(rest),
         Verb::Local => local(alloc, rest),
         Verb::Lease => Ok(Entry::Lease(lone_seconds(rest)?)),
         Verb::Remote => remote(alloc, rest),
-        Verb::Node => Ok(Entry::Act(node(alloc, remotes, rest)?)),
-        Verb::Identity => Ok(Entry::Act(identity_line(alloc, remotes, rest)?)),
-        Verb::Address => Ok(Entry::Act(address_line(alloc, remotes, rest)?)),
-        Verb::Withdraw => Ok(Entry::Act(withdraw(alloc, remotes, rest)?)),
-        Verb::Start => Ok(Entry::Act(start(alloc, remotes, rest)?)),
-        Verb::Stop => Ok(Entry::Act(stop(alloc, remotes, rest)?)),
-        Verb::Keep => Ok(Entry::Act(keep(alloc, remotes, rest)?)),
-        Verb::Export => Ok(Entry::Act(export(alloc, remotes, rest)?)),
-        Verb::Raw => Ok(Entry::Act(raw(alloc, remotes, rest)?)),
+        Verb::Node => Ok(Entry::Act(node(alloc, draft, rest)?)),
+        Verb::Identity => Ok(Entry::Act(identity_line(alloc, draft, rest)?)),
+        Verb::Address => Ok(Entry::Act(address_line(alloc, draft, rest)?)),
+        Verb::Withdraw => Ok(Entry::Act(withdraw(alloc, draft, rest)?)),
+        Verb::Start => Ok(Entry::Act(start(alloc, draft, rest)?)),
+        Verb::Stop => Ok(Entry::Act(stop(alloc, draft, rest)?)),
+        Verb::Keep => Ok(Entry::Act(keep(alloc, draft, rest)?)),
+        Verb::Export => Ok(Entry::Act(export(alloc, draft, rest)?)),
+        Verb::Raw => Ok(Entry::Act(raw(alloc, draft, rest)?)),
         Verb::Tick => Ok(Entry::Act(tick(rest)?)),
-        Verb::Turn => Ok(Entry::Act(turn(alloc, remotes, rest)?)),
+        Verb::Compact => Ok(Entry::Act(compact(alloc, draft, rest)?)),
+        Verb::Link => Ok(Entry::Act(link(alloc, draft, rest)?)),
+        Verb::Fail => Ok(Entry::Act(fail(alloc, draft, rest)?)),
+        Verb::Turn => Ok(Entry::Act(turn(alloc, draft, rest)?)),
+        Verb::Restart => Ok(Entry::Act(restart(rest)?)),
         Verb::Report => Ok(Entry::Act(Action::Report)),
     }
 }

@@ -1,16 +1,16 @@
 // Whether a line has the words of its form at all.
-ghost use Rattle.std.specs.Prelude.{◌≡◌, ◌&&◌, IfOk, bytes_eq, codes, is_some, true};
+ghost use Rattle.std.specs.Prelude.{◌≡◌, ◌&&◌, IfOk, bytes_eq, is_some, true};
 ghost use Rattle.std.specs.List.{list_all};
 ghost use Rattle.mesh_text.specs.Escapes.{unescaped};
 ghost use Rattle.scenario_lang.specs.Answers.{has};
-ghost use Rattle.scenario_lang.specs.Forms.{has_bytes, labels_of};
+ghost use Rattle.scenario_lang.specs.Forms.{has_bytes, labels_of, link_named, way_named, moment_named};
 ghost use Rattle.scenario_lang.specs.Shapes.{no_words, passes};
 ghost use Rattle.scenario_lang.specs.Split.{words};
 ghost use Rattle.scenario_lang.specs.Table as table;
 
 use crate::splitting::next_word;
 use crate::verb::Verb;
-use crate::words::labels_of;
+use crate::words::{labels_of, link_named, moment_named, way_named};
 use mesh_base::Memory;
 use mesh_text::unescape;
 use std::alloc::Global;
@@ -196,20 +196,54 @@ fn fits_raw(alloc: Global, rest: &[u8]) -> Result<bool, Memory>
     }
 }
 
-fn ends_with_all(rest: &[u8]) -> bool
-    ensures { result ≡ passes (words rest.now) (λ w more. passes more (λ v last. bytes_eq v (codes "all") && no_words last)) }
+fn ends_with_way(rest: &[u8]) -> bool
+    ensures { result ≡ passes (words rest.now) (λ w more. is_some (way_named w) && no_words more) }
 {
     match next_word(rest) {
-        Some((_, rest)) => begins_with(rest, "all", 0),
+        Some((word, rest)) => way_named(word).is_some() && has_words(rest, 0),
         None => false,
     }
 }
 
-fn fits_turn(rest: &[u8]) -> bool
-    ensures { result ≡ table.turn_line.fits (words rest.now) }
+fn fits_link(rest: &[u8]) -> bool
+    ensures { result ≡ table.link_line.fits (words rest.now) }
+{
+    let Some((_, rest)) = next_word(rest) else {
+        return false;
+    };
+    match next_word(rest) {
+        Some((word, rest)) => link_named(word).is_some() && ends_with_way(rest),
+        None => false,
+    }
+}
+
+fn ends_with_moment(rest: &[u8]) -> bool
+    ensures { result ≡ passes (words rest.now) (λ w more. is_some (moment_named w) && no_words more) }
 {
     match next_word(rest) {
-        Some((word, rest)) => word == "agent".as_bytes() && ends_with_all(rest),
+        Some((word, rest)) => moment_named(word).is_some() && has_words(rest, 0),
+        None => false,
+    }
+}
+
+/// There is a number of calls, and then the moment.
+fn ends_with_plan(rest: &[u8]) -> bool
+    ensures { result ≡ passes (words rest.now) (λ w more. passes more (λ v last. is_some (moment_named v) && no_words last)) }
+{
+    match next_word(rest) {
+        Some((_, rest)) => ends_with_moment(rest),
+        None => false,
+    }
+}
+
+fn fits_fail(rest: &[u8]) -> bool
+    ensures { result ≡ table.fail_line.fits (words rest.now) }
+{
+    let Some((_, rest)) = next_word(rest) else {
+        return false;
+    };
+    match next_word(rest) {
+        Some((word, rest)) => link_named(word).is_some() && ends_with_plan(rest),
         None => false,
     }
 }
@@ -224,14 +258,17 @@ pub(crate) fn fits_row(alloc: Global, verb: Verb, rest: &[u8]) -> Result<bool, M
         Verb::Mesh | Verb::Lease | Verb::Start | Verb::Stop | Verb::Keep | Verb::Tick => {
             Ok(has_words(rest, 1))
         }
-        Verb::Local | Verb::Export => Ok(has_words(rest, 2)),
+        Verb::Local | Verb::Export | Verb::Compact => Ok(has_words(rest, 2)),
         Verb::Remote => Ok(fits_remote(rest)),
         Verb::Node => Ok(fits_node(rest)),
         Verb::Identity => fits_identity(alloc, rest),
         Verb::Address => Ok(fits_address(rest)),
         Verb::Withdraw => Ok(fits_withdraw(rest)),
         Verb::Raw => fits_raw(alloc, rest),
-        Verb::Turn => Ok(fits_turn(rest)),
+        Verb::Link => Ok(fits_link(rest)),
+        Verb::Fail => Ok(fits_fail(rest)),
+        Verb::Turn => Ok(begins_with(rest, "agent", 2)),
+        Verb::Restart => Ok(begins_with(rest, "agent", 0)),
         Verb::Report => Ok(has_words(rest, 0)),
     }
 }

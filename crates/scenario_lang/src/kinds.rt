@@ -30,7 +30,7 @@ pub enum LineKind {
     UnknownCluster,
     /// A remote has the name of the local cluster or of an earlier remote.
     Repeated,
-    /// The line is not of this way to run a scenario.
+    /// The line is not of this way to run a scenario, or names a link that its remote does not have.
     Mode,
     /// The text has more than 16,777,216 bytes, the line more than 65,536, the key more than 1,024
     /// or the value more than 32,768.

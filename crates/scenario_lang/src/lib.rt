@@ -27,4 +27,6 @@ mod words;
 
 pub use kinds::{LineFault, LineKind, Mode};
 pub use lines::read_scenario;
-pub use scenario::{Action, Cluster, Count, Pod, RawWrite, Remote, Scenario, Withdrawn};
+pub use scenario::{
+    Action, Cluster, Count, LinkName, Moment, Pod, RawWrite, Remote, Scenario, StoreOf, Withdrawn,
+};

@@ -5,7 +5,7 @@ ghost use Rattle.scenario_lang.specs.Answers.{Gives, stop_in, taken};
 ghost use Rattle.scenario_lang.specs.Lines as lines;
 ghost use Rattle.scenario_lang.specs.Split.{words};
 
-use crate::draft::{Draft, after, breaks_mode, exceeds, repeats, turns_again};
+use crate::draft::{Draft, after, breaks_mode, exceeds, repeats};
 use crate::entries::row_entry;
 use crate::entry::Entry;
 use crate::fitting::fits_row;
@@ -23,13 +23,10 @@ fn judge_entry(mode: Mode, draft: &Draft, entry: Entry) -> Result<Entry, Stop<Li
     ensures said { Gives result (lines.entry_said mode draft.now entry) }
     ensures fresh { IfOk result (λ e. lines.repeats draft.now e ≡ false) }
 {
-    if turns_again(draft, &entry) {
-        return Err(Stop::Fault(LineKind::Words));
-    }
     if repeats(draft, &entry) {
         return Err(Stop::Fault(LineKind::Repeated));
     }
-    if breaks_mode(mode, &entry) {
+    if breaks_mode(mode, draft, &entry) {
         return Err(Stop::Fault(LineKind::Mode));
     }
     if exceeds(mode, draft, &entry) {
@@ -56,7 +53,7 @@ fn read_row(
     if !may_follow(draft.last, place_of(verb)) {
         return Err(Stop::Fault(LineKind::Header));
     }
-    let entry = row_entry(alloc, &draft.remotes, verb, rest)?;
+    let entry = row_entry(alloc, draft, verb, rest)?;
     judge_entry(mode, draft, entry)
 }
 

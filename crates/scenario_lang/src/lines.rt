@@ -57,7 +57,6 @@ fn complete(line: u64, draft: Draft) -> Result<Scenario, Stop<LineFault>>
         lease,
         remotes,
         actions,
-        turned: _,
         unsettled: _,
     } = draft;
     match local {
@@ -114,7 +113,12 @@ fn read_lines(alloc: Global, mode: Mode, text: &[u8]) -> Result<Scenario, Stop<L
 fn is_heavy(action: &Action) -> bool
     ensures { result ≡ lines.is_heavy action.now }
 {
-    matches!(action, Action::Start { .. } | Action::Report)
+    match action {
+        Action::Start { .. } | Action::Compact { .. } | Action::Fail { .. } => true,
+        Action::RestartAgent | Action::Report => true,
+        Action::Link { up, .. } => !*up,
+        _ => false,
+    }
 }
 
 /// How many heavy lines there are.

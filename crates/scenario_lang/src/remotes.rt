@@ -1,6 +1,6 @@
 ghost use Rattle.std.specs.Prelude.{◌≡◌, ◌++◌, ◌∷◌, [], ℕ, List, IfOk, None, position};
 ghost use Rattle.mesh_base.specs.Order.{same_bytes};
-ghost use Rattle.scenario_lang.specs.Forms.{names_of};
+ghost use Rattle.scenario_lang.specs.Clusters.{names_of};
 
 use crate::scenario::Remote;
 use mesh_base::{Items, Memory};
@@ -24,7 +24,7 @@ impl Model for Remotes {
     ghost use Rattle.std.specs.BTreeMap.{get};
     ghost use Rattle.mesh_base.specs.Order.{same_bytes};
     ghost use Rattle.scenario_lang.specs.declared.scenario.Remote.{Remote};
-    ghost use Rattle.scenario_lang.specs.Forms.{names_of};
+    ghost use Rattle.scenario_lang.specs.Clusters.{names_of};
 
     ghost Value = { List Remote };
 

@@ -52,6 +52,37 @@ pub enum RawWrite {
     Delete { key: Bytes },
 }
 
+/// A connection of a remote over which calls of a store go, and may fail.
+#[derive(Clone, Copy, Debug, PartialEq, Eq)]
+pub enum LinkName {
+    /// From the remote's exporter to the remote's store.
+    Exporter,
+    /// From KVStoreMesh's worker for the remote to the remote's store.
+    Remote,
+    /// From KVStoreMesh's worker for the remote to the local store.
+    Local,
+    /// From the agent's reader of the remote to the store that it reads.
+    Agent,
+}
+
+/// When a call fails.
+#[derive(Clone, Copy, Debug, PartialEq, Eq)]
+pub enum Moment {
+    /// Before it is made, so it has no effect.
+    Before,
+    /// After it is made, so it has its whole effect, and its answer is lost.
+    After,
+}
+
+/// Whose store it is.
+#[derive(Clone, Copy, Debug, PartialEq, Eq)]
+pub enum StoreOf {
+    /// The local cluster's.
+    Local,
+    /// That of the remote at this place in the scenario's list.
+    Remote(usize),
+}
+
 /// What one line of a scenario does. `remote` is a remote's place in the scenario's list.
 #[derive(Debug, Drop)]
 pub enum Action {
@@ -106,10 +137,32 @@ pub enum Action {
     Tick {
         seconds: u64,
     },
-    /// The agent reads the remote's store once, without a limit of revisions.
+    /// A store forgets its changes up to a revision, from 1 to 1,000,000,000.
+    Compact {
+        store: StoreOf,
+        revision: u64,
+    },
+    /// A link of the remote goes up, or down, where every call of it fails.
+    Link {
+        remote: usize,
+        link: LinkName,
+        up: bool,
+    },
+    /// A call of a link of the remote is planned to fail, behind those planned before: the one
+    /// that comes after this many further calls, from 0 to 1,000,000.
+    Fail {
+        remote: usize,
+        link: LinkName,
+        skip: u32,
+        moment: Moment,
+    },
+    /// The agent reads the remote's store once, and no more revisions than these.
     Turn {
         remote: usize,
+        count: Count,
     },
+    /// The agent begins anew, and knows nothing of what it read.
+    RestartAgent,
     /// A report is written.
     Report,
 }

@@ -1,5 +1,6 @@
 use crate::{
-    Action, Count, LineFault, LineKind, Mode, RawWrite, Scenario, Withdrawn, read_scenario,
+    Action, Count, LineFault, LineKind, LinkName, Mode, Moment, RawWrite, Scenario, StoreOf,
+    Withdrawn, read_scenario,
 };
 use key_paths::Hop;
 use mesh_base::Memory;
@@ -187,6 +188,21 @@ fn each_action_of_an_exporter_or_a_store_is_read(rt: HostRuntime) -> Result<(), 
             }
         )
     );
+    assert!(rt;
+        matches!(
+            only_action(alloc, "tick 1000000000\n")?,
+            Action::Tick {
+                seconds: 1_000_000_000
+            }
+        )
+    );
+    assert!(rt; matches!(only_action(alloc, "report\n")?, Action::Report));
+    Ok(())
+}
+
+#[test]
+fn each_raw_write_is_read(rt: HostRuntime) -> Result<(), Fail> {
+    let alloc = rt.alloc();
     let put = only_action(alloc, "raw west put a%2fb %25-\n")?;
     assert!(rt;
         matches!(&put, Action::Raw { remote: 1, write: RawWrite::Put { key, value } }
@@ -200,21 +216,105 @@ fn each_action_of_an_exporter_or_a_store_is_read(rt: HostRuntime) -> Result<(), 
     assert!(rt;
         matches!(&delete, Action::Raw { remote: 0, write: RawWrite::Delete { key } } if key.as_slice() == b"put".as_slice())
     );
+    Ok(())
+}
+
+#[test]
+fn each_action_on_the_way_to_the_agent_is_read(rt: HostRuntime) -> Result<(), Fail> {
+    let alloc = rt.alloc();
     assert!(rt;
         matches!(
-            only_action(alloc, "tick 1000000000\n")?,
-            Action::Tick {
-                seconds: 1_000_000_000
+            only_action(alloc, "compact home 1000000000\n")?,
+            Action::Compact {
+                store: StoreOf::Local,
+                revision: 1_000_000_000
+            }
+        )
+    );
+    assert!(rt;
+        matches!(
+            only_action(alloc, "compact west 1\n")?,
+            Action::Compact {
+                store: StoreOf::Remote(1),
+                revision: 1
+            }
+        )
+    );
+    assert!(rt;
+        matches!(
+            only_action(alloc, "link west agent up\n")?,
+            Action::Link {
+                remote: 1,
+                link: LinkName::Agent,
+                up: true
+            }
+        )
+    );
+    assert!(rt;
+        matches!(
+            only_action(alloc, "link east exporter down\n")?,
+            Action::Link {
+                remote: 0,
+                link: LinkName::Exporter,
+                up: false
+            }
+        )
+    );
+    assert!(rt;
+        matches!(
+            only_action(alloc, "fail west exporter 0 before\n")?,
+            Action::Fail {
+                remote: 1,
+                link: LinkName::Exporter,
+                skip: 0,
+                moment: Moment::Before
+            }
+        )
+    );
+    assert!(rt;
+        matches!(
+            only_action(alloc, "fail east agent 1000000 after\n")?,
+            Action::Fail {
+                remote: 0,
+                link: LinkName::Agent,
+                skip: 1_000_000,
+                moment: Moment::After
             }
         )
     );
     assert!(rt;
         matches!(
             only_action(alloc, "turn agent west all\n")?,
-            Action::Turn { remote: 1 }
+            Action::Turn {
+                remote: 1,
+                count: Count::All
+            }
         )
     );
-    assert!(rt; matches!(only_action(alloc, "report\n")?, Action::Report));
+    assert!(rt;
+        matches!(
+            only_action(alloc, "turn agent east 1\n")?,
+            Action::Turn {
+                remote: 0,
+                count: Count::Of(1)
+            }
+        )
+    );
+    assert!(rt;
+        matches!(
+            only_action(alloc, "restart  agent\n")?,
+            Action::RestartAgent
+        )
+    );
+    Ok(())
+}
+
+#[test]
+fn turns_and_restarts_come_again(rt: HostRuntime) -> Result<(), Fail> {
+    let text =
+        "mesh 1\nlocal home 9\nremote east 1 direct\nturn agent east all\nturn agent east all\nrestart agent\nreport\nrestart agent\nturn agent east 3\n";
+    let scenario = scenario(rt.alloc(), text)?;
+    assert_eq!(rt; scenario.actions.len(), 6);
     Ok(())
 }
 
@@ -301,10 +401,8 @@ fn a_faulty_action_is_refused(rt: HostRuntime) -> Result<(), Fail> {
         ("report 1\n", LineKind::Words),
         ("service east prod web\n", LineKind::Words),
         ("settle\n", LineKind::Words),
-        ("compact east 2\n", LineKind::Words),
         ("turn mesh east all\n", LineKind::Words),
-        ("turn agent east 1\n", LineKind::Words),
-        ("restart agent\n", LineKind::Words),
+        ("restart mesh east\n", LineKind::Words),
         ("tick\t5\n", LineKind::Words),
         ("# caf\u{e9}\n", LineKind::Words),
         ("tick 0\n", LineKind::Number),
@@ -351,6 +449,63 @@ fn a_faulty_action_is_refused(rt: HostRuntime) -> Result<(), Fail> {
 }
 
 #[test]
+fn a_faulty_action_on_the_way_to_the_agent_is_refused(rt: HostRuntime) -> Result<(), Fail> {
+    let cases = [
+        ("compact east\n", LineKind::Words),
+        ("compact east 2 3\n", LineKind::Words),
+        ("compact East 2\n", LineKind::Name),
+        ("compact west 2\n", LineKind::UnknownCluster),
+        ("compact east 0\n", LineKind::Number),
+        ("compact home 1000000001\n", LineKind::Number),
+        ("compact home 02\n", LineKind::Number),
+        ("compact home all\n", LineKind::Number),
+        ("link east agent\n", LineKind::Words),
+        ("link east agent up up\n", LineKind::Words),
+        ("link east agent Down\n", LineKind::Words),
+        ("link east agent before\n", LineKind::Words),
+        ("link east reader up\n", LineKind::Words),
+        ("link east agents up\n", LineKind::Words),
+        ("link home agent up\n", LineKind::UnknownCluster),
+        ("link e_st agent up\n", LineKind::Name),
+        ("link east remote up\n", LineKind::Mode),
+        ("link east local down\n", LineKind::Mode),
+        ("fail east agent 0\n", LineKind::Words),
+        ("fail east agent before\n", LineKind::Words),
+        ("fail east agent 0 before 0\n", LineKind::Words),
+        ("fail east agent 0 up\n", LineKind::Words),
+        ("fail east agent 0 AFTER\n", LineKind::Words),
+        ("fail east 0 agent before\n", LineKind::Words),
+        ("fail - agent 0 before\n", LineKind::Name),
+        ("fail west agent 0 before\n", LineKind::UnknownCluster),
+        ("fail east agent 1000001 before\n", LineKind::Number),
+        ("fail east agent 00 before\n", LineKind::Number),
+        ("fail east agent all after\n", LineKind::Number),
+        ("fail east remote 0 after\n", LineKind::Mode),
+        ("fail east local 0 before\n", LineKind::Mode),
+        ("turn agent east\n", LineKind::Words),
+        ("turn east all\n", LineKind::Words),
+        ("turn agent east all all\n", LineKind::Words),
+        ("turn agents east all\n", LineKind::Words),
+        ("turn agent home all\n", LineKind::UnknownCluster),
+        ("turn agent EAST all\n", LineKind::Name),
+        ("turn agent east 0\n", LineKind::Number),
+        ("turn agent east 1000000001\n", LineKind::Number),
+        ("turn agent east All\n", LineKind::Number),
+        ("restart\n", LineKind::Words),
+        ("restart agent east\n", LineKind::Words),
+        ("restart Agent\n", LineKind::Words),
+    ];
+    for (lines, kind) in cases {
+        assert_eq!(rt;
+            fault_behind_head(rt.alloc(), lines, Mode::Step)?,
+            fault(4, kind),
+            "at {lines}"
+        );
+    }
+    Ok(())
+}
+
+#[test]
 fn the_first_fault_counts(rt: HostRuntime) -> Result<(), Fail> {
     let cases = [
         // the fixed words, escapes and numbers of words of a whole line before its place
@@ -372,11 +527,22 @@ fn the_first_fault_counts(rt: HostRuntime) -> Result<(), Fail> {
         // the first faulty line, and each line once
         ("tick 0\nwhat\n", 4, LineKind::Number),
         ("# what\n\n  \ntick 5\nwhat\n", 8, LineKind::Words),
+        // Words of a whole line, then the words from the left, and the link at last
+        ("fail EAST link 1000001 never\n", 4, LineKind::Words),
+        ("fail EAST remote 1000001 never\n", 4, LineKind::Words),
+        ("fail EAST remote 1000001 after\n", 4, LineKind::Name),
         (
-            "turn agent east all\nreport\nturn agent east all\n",
-            6,
-            LineKind::Words,
+            "fail west remote 1000001 after\n",
+            4,
+            LineKind::UnknownCluster,
         ),
+        ("fail east remote 1000001 after\n", 4, LineKind::Number),
+        ("link west remote up\n", 4, LineKind::UnknownCluster),
+        ("compact WEST 0\n", 4, LineKind::Name),
+        ("compact west 0\n", 4, LineKind::UnknownCluster),
+        ("turn agent west 0\n", 4, LineKind::UnknownCluster),
+        ("link east remote up\nlink east up\n", 4, LineKind::Mode),
+        ("link east agent up\nlink east up\n", 5, LineKind::Words),
     ];
     for (lines, line, kind) in cases {
         assert_eq!(rt;
@@ -393,9 +559,26 @@ fn threads_want_other_lines(rt: HostRuntime) -> Result<(), Fail> {
     let cases = [
         ("report\n", fault(4, LineKind::Mode)),
         ("report x\n", fault(4, LineKind::Words)),
+        ("report\ntick 5\n", fault(4, LineKind::Mode)),
         ("tick 5\n# no settle\n", fault(4, LineKind::Mode)),
         ("tick 5\ntick 5\n", fault(5, LineKind::Mode)),
         ("tick 5\ntick 0\n", fault(5, LineKind::Number)),
+        ("restart agent\n", fault(4, LineKind::Mode)),
+        (
+            "restart agent\n# again\nrestart agent\n",
+            fault(6, LineKind::Mode),
+        ),
+        (
+            "restart agent\ntick 5\nrestart agent\ntick 5\n",
+            fault(6, LineKind::Mode),
+        ),
+        ("tick 5\nrestart agent\ntick 0\n", fault(5, LineKind::Mode)),
+        (
+            "restart agent\nrestart agent\ntick 0\n",
+            fault(6, LineKind::Number),
+        ),
+        ("link east local up\ntick 0\n", fault(4, LineKind::Mode)),
+        ("link east agent up\ntick 0\n", fault(5, LineKind::Number)),
         ("", None),
         ("# nothing to do\n", None),
     ];
@@ -541,6 +724,34 @@ fn heavy_lines_want_a_short_text(rt: HostRuntime) -> Result<(), Fail> {
         ("report\n", 1023, 65_537, fault(0, LineKind::TooHeavy)),
         ("report\n", 1024, 65_536, fault(0, LineKind::TooHeavy)),
         ("start east\n", 1024, 65_536, fault(0, LineKind::TooHeavy)),
+        (
+            "compact home 1\n",
+            1024,
+            65_536,
+            fault(0, LineKind::TooHeavy),
+        ),
+        (
+            "link east agent down\n",
+            1024,
+            65_536,
+            fault(0, LineKind::TooHeavy),
+        ),
+        ("link east agent up\n", 1024, 65_536, None),
+        ("fail east agent 0 after\n", 1023, 65_536, None),
+        (
+            "fail east agent 0 after\n",
+            1024,
+            65_536,
+            fault(0, LineKind::TooHeavy),
+        ),
+        ("restart agent\n", 1023, 65_536, None),
+        (
+            "restart agent\n",
+            1023,
+            65_537,
+            fault(0, LineKind::TooHeavy),
+        ),
+        ("turn agent east all\n", 1024, 65_536, None),
         ("tick 5\n", 1024, 65_536, None),
     ];
     for (line, heavy, bytes, wanted) in cases {
@@ -579,7 +790,7 @@ fn a_text_has_its_size(rt: HostRuntime) -> Result<(), Fail> {
 }
 
 const WHOLE: &str =
-    "mesh 1\nlocal home 9\nremote east 1 direct\n# x\nnode east n1 10.0.0.1\nraw east put a b\ntick 5\nreport\n";
+    "mesh 1\nlocal home 9\nremote east 1 direct\n# x\nnode east n1 10.0.0.1\nraw east put a b\ntick 5\nlink east agent down\nfail east exporter 0 after\ncompact home 2\nturn agent east 7\nrestart agent\nreport\n";
 
 /// The number of the line in which a place lies.
 fn line_at(text: &[u8], place: usize) -> u64 {

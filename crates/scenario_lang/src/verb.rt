@@ -18,12 +18,16 @@ pub(crate) enum Verb {
     Export,
     Raw,
     Tick,
+    Compact,
+    Link,
+    Fail,
     Turn,
+    Restart,
     Report,
 }
 
 /// All that a line may begin with.
-const VERBS: [Verb; 16] = [
+const VERBS: [Verb; 20] = [
     Verb::Mesh,
     Verb::Local,
     Verb::Lease,
@@ -38,7 +42,11 @@ const VERBS: [Verb; 16] = [
     Verb::Export,
     Verb::Raw,
     Verb::Tick,
+    Verb::Compact,
+    Verb::Link,
+    Verb::Fail,
     Verb::Turn,
+    Verb::Restart,
     Verb::Report,
 ];
 
@@ -65,7 +73,8 @@ pub(crate) fn place_of(verb: Verb) -> Place
         Verb::Remote => Place::Remotes,
         Verb::Node | Verb::Identity | Verb::Address | Verb::Withdraw => Place::Actions,
         Verb::Start | Verb::Stop | Verb::Keep | Verb::Export => Place::Actions,
-        Verb::Raw | Verb::Tick | Verb::Turn | Verb::Report => Place::Actions,
+        Verb::Raw | Verb::Tick | Verb::Compact | Verb::Link => Place::Actions,
+        Verb::Fail | Verb::Turn | Verb::Restart | Verb::Report => Place::Actions,
     }
 }
 
@@ -103,7 +112,11 @@ fn text_of(verb: Verb) -> &'static str
         Verb::Export => "export",
         Verb::Raw => "raw",
         Verb::Tick => "tick",
+        Verb::Compact => "compact",
+        Verb::Link => "link",
+        Verb::Fail => "fail",
         Verb::Turn => "turn",
+        Verb::Restart => "restart",
         Verb::Report => "report",
     }
 }

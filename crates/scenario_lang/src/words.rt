@@ -2,14 +2,16 @@
 ghost use Rattle.std.specs.Prelude.{◌≡◌, ◌∷◌, ◌-◌, ◌^◌, [], ℕ, List, IfOk, IfErr, OnErr, Ok, Err, Some, None, option_map, is_some};
 ghost use Rattle.mesh_text.specs.Escapes.{unescaped};
 ghost use Rattle.scenario_lang.specs.Answers.{Gives};
+ghost use Rattle.scenario_lang.specs.Clusters.{names_of};
 ghost use Rattle.mesh_records.specs.Identity.{identity_of};
 ghost use Rattle.scenario_lang.specs.Forms as forms;
 ghost use Rattle.scenario_lang.specs.Judgement.{or_fault};
 ghost use Rattle.scenario_lang.specs.Split.{words};
 
+use crate::draft::{Draft, is_local_name};
 use crate::kinds::LineKind;
 use crate::remotes::Remotes;
-use crate::scenario::Count;
+use crate::scenario::{Count, LinkName, Moment, StoreOf};
 use crate::splitting::next_word;
 use crate::stops::Stop;
 use mesh_base::{Bytes, Memory};
@@ -70,11 +72,25 @@ pub(crate) fn remote_place(
     remotes: &Remotes,
     word: &[u8],
 ) -> Result<usize, Stop<LineKind>>
-    ensures { Gives result (forms.remote_said (forms.names_of remotes.now) word.now) }
+    ensures { Gives result (forms.remote_said (names_of remotes.now) word.now) }
 {
     let name = cluster_name(alloc, word)?;
     match remotes.place(&name) {
         Some(place) => Ok(place),
+        None => Err(Stop::Fault(LineKind::UnknownCluster)),
+    }
+}
+
+/// The store of the local cluster or of a remote, by the cluster's name.
+pub(crate) fn store_of(alloc: Global, draft: &Draft, word: &[u8]) -> Result<StoreOf, Stop<LineKind>>
+    ensures { Gives result (forms.store.says draft.now word.now) }
+{
+    let cluster = cluster_name(alloc, word)?;
+    if is_local_name(&cluster, &draft.local) {
+        return Ok(StoreOf::Local);
+    }
+    match draft.remotes.place(&cluster) {
+        Some(place) => Ok(StoreOf::Remote(place)),
         None => Err(Stop::Fault(LineKind::UnknownCluster)),
     }
 }
@@ -114,6 +130,23 @@ pub(crate) fn seconds(word: &[u8]) -> Result<u64, Stop<LineKind>>
     ensures { Gives result (forms.whole_said 1 1000000000 word.now) }
 {
     whole(word, 1, 1_000_000_000)
+}
+
+/// A revision, from 1 to 1,000,000,000.
+pub(crate) fn revision(word: &[u8]) -> Result<u64, Stop<LineKind>>
+    ensures { Gives result (forms.whole_said 1 1000000000 word.now) }
+{
+    whole(word, 1, 1_000_000_000)
+}
+
+/// How many calls go through before one fails, up to 1,000,000.
+pub(crate) fn skip(word: &[u8]) -> Result<u32, Stop<LineKind>>
+    ensures { Gives result (forms.whole_said 0 1000000 word.now) }
+{
+    match read_number(word) {
+        Some(n) if n <= 1_000_000 => Ok(n as u32),
+        _ => Err(Stop::Fault(LineKind::Number)),
+    }
 }
 
 /// A number from 1 to 1,000,000,000, or `all`.
@@ -187,6 +220,61 @@ pub(crate) fn labels(alloc: Global, word: &[u8]) -> Result<IdentityRecord, Stop<
 {
     match labels_of(alloc, word)? {
         Some(labels) => Ok(labels),
+        None => Err(Stop::Fault(LineKind::Words)),
+    }
+}
+
+/// A link of a remote, by its name.
+pub(crate) fn link_named(word: &[u8]) -> Option<LinkName>
+    ensures { result ≡ forms.link_named word.now }
+{
+    if word == "exporter".as_bytes() {
+        return Some(LinkName::Exporter);
+    }
+    if word == "remote".as_bytes() {
+        return Some(LinkName::Remote);
+    }
+    if word == "local".as_bytes() {
+        return Some(LinkName::Local);
+    }
+    if word == "agent".as_bytes() {
+        return Some(LinkName::Agent);
+    }
+    None
+}
+
+/// Whether a link is up.
+pub(crate) fn way_named(word: &[u8]) -> Option<bool>
+    ensures { result ≡ forms.way_named word.now }
+{
+    if word == "up".as_bytes() {
+        return Some(true);
+    }
+    if word == "down".as_bytes() {
+        return Some(false);
+    }
+    None
+}
+
+/// When a call fails.
+pub(crate) fn moment_named(word: &[u8]) -> Option<Moment>
+    ensures { result ≡ forms.moment_named word.now }
+{
+    if word == "before".as_bytes() {
+        return Some(Moment::Before);
+    }
+    if word == "after".as_bytes() {
+        return Some(Moment::After);
+    }
+    None
+}
+
+/// What a word of a few fixed ones says.
+pub(crate) fn fixed<T>(read: Option<T>) -> Result<T, Stop<LineKind>>
+    ensures { Gives result (or_fault read LineKind.Words) }
+{
+    match read {
+        Some(said) => Ok(said),
         None => Err(Stop::Fault(LineKind::Words)),
     }
 }

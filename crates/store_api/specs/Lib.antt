@@ -1,6 +1,7 @@
 pub mod Advance
 pub mod Attached
 pub mod Contents
+pub mod Crossing
 pub mod Followed
 pub mod History
 pub mod Laws

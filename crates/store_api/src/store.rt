@@ -3,7 +3,10 @@ ghost use Rattle.std.specs.List.{IsDistinct};
 ghost use Rattle.mesh_base.specs.Order.{same_bytes};
 ghost use Rattle.store_api.specs.History.{key_of, revision};
 ghost use Rattle.store_api.specs.Contents.{IsBatch, IsListing, after_commit, after_compact, after_grant, after_keep_alive, after_tick, dead_lease, unchanged};
+ghost use Rattle.store_api.specs.Crossing.{Ending, Request, ending_of, to_commit, to_grant, to_keep_alive, to_list, to_pull};
 ghost use Rattle.store_api.specs.Leases.{is_live_lease};
+ghost use Rattle.store_api.specs.declared.change.Batch as batch;
+ghost use Rattle.store_api.specs.declared.change.Listing as listing;
 ghost use Rattle.store_api.specs.Meaning.{Meaning, Keeps, Makes, MayMake};
 
 use crate::change::{Batch, Listing, Op, Ranges, StoreFault};
@@ -32,6 +35,10 @@ pub trait Store {
     /// The names of the references that the value holds. They stay over every call.
     ghost loans: { Self → List ℕ } = { λ _. [] };
 
+    /// What a call (the value before it, the value after it, the call, its end) says of whatever
+    /// lies between the caller and the store, as a link with planned failures. Nothing, by default.
+    ghost crossed: { Self → Self → Request → Ending → Type 0 } = { λ _ _ _ _. Unit {0} };
+
     /// Lists the pairs of the ranges that are live at the store's revision, in byte order of keys.
     ///
     /// After `Lost` and `Memory` nothing is known of the pairs, and the contents are as found.
@@ -46,6 +53,7 @@ pub trait Store {
 
         ensures keeps { Keeps (meaning self.old) (meaning self.new) }
         ensures named { name self.new ≡ name self.old }
+        ensures crossed { crossed self.old self.new to_list (ending_of listing.Listing result) }
         ensures loans { loans self.new ≡ loans self.old };
 
     /// Delivers what the revisions from `from` on changed in the ranges (etcd: a watch from there).
@@ -80,6 +88,7 @@ pub trait Store {
 
         ensures keeps { Keeps (meaning self.old) (meaning self.new) }
         ensures named { name self.new ≡ name self.old }
+        ensures crossed { crossed self.old self.new (to_pull from) (ending_of batch.Batch result) }
         ensures loans { loans self.new ≡ loans self.old };
 
     /// Applies the operations as one transaction, and answers the store's revision after it.
@@ -105,6 +114,7 @@ pub trait Store {
 
         ensures keeps { Keeps (meaning self.old) (meaning self.new) }
         ensures named { name self.new ≡ name self.old }
+        ensures crossed { crossed self.old self.new (to_commit ops.now) (ending_of ℕ result) }
         ensures loans { loans self.new ≡ loans self.old };
 
     /// Grants a lease of so many seconds, and answers its number (etcd: LeaseGrant).
@@ -122,6 +132,7 @@ pub trait Store {
 
         ensures keeps { Keeps (meaning self.old) (meaning self.new) }
         ensures named { name self.new ≡ name self.old }
+        ensures crossed { crossed self.old self.new (to_grant seconds) (ending_of ℕ result) }
         ensures loans { loans self.new ≡ loans self.old };
 
     /// Moves the lease's deadline to now plus the seconds that were granted (etcd: LeaseKeepAlive).
@@ -141,6 +152,7 @@ pub trait Store {
 
         ensures keeps { Keeps (meaning self.old) (meaning self.new) }
         ensures named { name self.new ≡ name self.old }
+        ensures crossed { crossed self.old self.new (to_keep_alive lease) (ending_of (Unit {0}) result) }
         ensures loans { loans self.new ≡ loans self.old };
 }
 

@@ -1,5 +1,5 @@
 // A store in memory of which calls are lost by a plan.
-ghost use Rattle.std.specs.Prelude.{◌≡◌, length, All, IfOk};
+ghost use Rattle.std.specs.Prelude.{◌≡◌, length, map, All, IfOk};
 ghost use Rattle.mesh_replay.specs.Goes.{IsOpen};
 ghost use Rattle.mesh_replay.specs.Lossy.{with_faults};
 
@@ -162,7 +162,7 @@ impl StoreAdmin for LossyStore {
 /// 256 fresh stores, of which that of the only remote loses calls by the plan.
 pub fn lossy_stores(alloc: Global, plan: Vec<When>) -> Result<Vec<LossyStore>, Memory>
     ensures many { IfOk result (λ v. length v.items ≡ 256) }
-    ensures open { IfOk result (λ v. All (λ s. IsOpen (⟦<LossyStore as Store>⟧.meaning s)) v.items) }
+    ensures open { IfOk result (λ v. All IsOpen (map ⟦<LossyStore as Store>⟧.meaning v.items)) }
 {
     let mut stores = Vec::with_capacity(alloc, 256)?;
     stores.push(LossyStore::fresh(alloc, Vec::new(alloc)))?;

@@ -3,7 +3,6 @@ use Rattle.std.specs.FinMap as finite
 use Rattle.std.specs.Map.{keys_of}
 use Rattle.store_api.specs.History.{Pairing}
 use Rattle.exporter.specs.State.{record_item}
-use Rattle.exporter.specs.declared.item.Item.{Item}
 use Rattle.exporter.proofs.Maps.{Entries, entries_of}
 use Rattle.exporter.proofs.Queues.{Fresh, fresh_of, none_of}
 use Rattle.exporter.proofs.declared.Declared.add_keys.Goals as goal

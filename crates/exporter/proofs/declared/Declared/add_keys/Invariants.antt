@@ -1,5 +1,4 @@
 use Rattle.std.proofs.Common.{◌≡◌, ◌++◌, map}
-use Rattle.std.specs.Map.{keys_of}
 use Rattle.exporter.specs.State.{record_item}
 use Rattle.exporter.proofs.Queues.{Fresh}
 use Rattle.exporter.proofs.declared.Declared.add_keys.Given as goal

@@ -1,4 +1,4 @@
-use Rattle.std.proofs.Common.{◌≡◌, ◌∙◌, ℕ, List, ap, sym}
+use Rattle.std.proofs.Common.{◌≡◌, ◌∙◌, ℕ, List, ap}
 use Rattle.std.specs.Bool.{IsTrue}
 use Rattle.store_api.specs.History.{in_ranges}
 use Rattle.key_paths.specs.Paths.{record_ranges}

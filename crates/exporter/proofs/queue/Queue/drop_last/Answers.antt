@@ -1,4 +1,4 @@
-use Rattle.std.proofs.Common.{◌≡◌, ◌∙◌, ◌++◌, ◌∷◌, [], List, ap, refl, sym, subst}
+use Rattle.std.proofs.Common.{◌≡◌, ◌∙◌, ◌++◌, ◌∷◌, [], List, ap, refl, subst}
 use Rattle.exporter.specs.Kept.{HasKeys}
 use Rattle.exporter.specs.declared.item.Item.{Item}
 use Rattle.exporter.specs.declared.item.Item.TheVariants as item

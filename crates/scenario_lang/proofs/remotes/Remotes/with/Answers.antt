@@ -2,7 +2,7 @@ use Rattle.std.proofs.Common.{◌≡◌, ◌∙◌, sym, subst, None, position, 
 use Rattle.std.proofs.lemmas.List.{map_push}
 use Rattle.mesh_base.specs.Order.{same_bytes}
 use Rattle.scenario_lang.specs.declared.scenario.Remote.{Remote}
-use Rattle.scenario_lang.specs.Forms.{names_of}
+use Rattle.scenario_lang.specs.Clusters.{names_of}
 use Rattle.scenario_lang.proofs.Names.{found_with, names_length}
 use Rattle.scenario_lang.proofs.remotes.Remotes.with.Goals as goal
 

@@ -1,0 +1,16 @@
+use Rattle.std.proofs.Common.{◌+◌, refl, arith}
+use Rattle.std.specs.Vec.{with_item}
+use Rattle.mesh_replay.proofs.Exported.{done_exported}
+use Rattle.mesh_replay.proofs.Worlds.{writable_at}
+use Rattle.mesh_replay.proofs.replay.Replay.export.Goals as goal
+
+pub export-requires : goal.export-requires
+export-requires g c = record { writable = writable_at g.S.Store.meaning c.args.stores.now c.args.self.now (c.args.remote + 1) (omega arith) c.index-stores-remote.result c.requires.world }
+
+pub returns : goal.returns
+returns g c = record {
+  done = done_exported g.S.Store.meaning c.args.stores.now c.args.remote c.index-stores-remote.result c.export.new.store c.args.self.now
+      (record c.args.self.now { remotes = with_item c.args.self.now.remotes c.args.remote c.export.new.self })
+      c.index_mut.result.now c.export.new.self c.requires.remote c.index_mut.ensures.value
+      (record { local = refl; number = refl; remotes = refl; reports = refl; text = refl }) c.args.most c.export.result c.export.ensures.writes;
+}

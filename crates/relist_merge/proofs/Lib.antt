@@ -1,0 +1,11 @@
+pub mod CallerLemmas
+mod Numbers
+mod Changes
+mod Listings
+mod Sighted
+mod Steps
+mod Longer
+mod Places
+mod Viewing
+mod ReadLists
+mod RowLists

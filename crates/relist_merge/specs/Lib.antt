@@ -1,0 +1,10 @@
+pub mod Deliveries
+pub mod Records
+pub mod View
+pub mod Shown
+pub mod Readings
+pub mod Given
+pub mod Viewed
+pub mod Sight
+pub mod Laws
+pub mod Told

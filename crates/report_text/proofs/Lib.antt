@@ -1,0 +1,4 @@
+pub mod CallerLemmas
+pub mod Sorted
+mod LineOrder
+mod Unordered

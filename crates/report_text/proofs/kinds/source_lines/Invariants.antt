@@ -1,0 +1,7 @@
+use Rattle.std.proofs.Common.{◌≡◌, ◌++◌, map, drop}
+use Rattle.report_text.specs.Text.{source_line}
+use Rattle.report_text.proofs.kinds.source_lines.Given as goal
+
+-- the lines so far and those of what is left are all
+abbrev pub invariant-loop-row : goal.invariant-loop-row
+invariant-loop-row l = l.lines.items ++ map source_line (drop l.row-index l.rows) ≡ map source_line l.rows
