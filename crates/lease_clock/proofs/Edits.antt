@@ -1,101 +1,85 @@
 -- What an edit of the kept leases does to the table that they stand for.
-use Rattle.std.proofs.Common.{◌≡◌, ℕ, ◌+◌, ◌-◌, ◌^◌, ◌<◌, ◌≤◌, ◌==◌, List, [], ◌∷◌, ◌++◌, map, filter, length, get_or, set, take, drop, suc, Some, true, false, not, cond, refl, ap, ap₂, sym, ◌∙◌, subst, arith}
-use Rattle.std.specs.List.{remove}
-use Rattle.std.proofs.lemmas.List.{map-set, map-append, take-map, drop-map, get_or-map, length-map, map_push}
-use Rattle.std.proofs.lemmas.Bool.Decides.{nat_tests}
-use Rattle.store_api.specs.Leases.{Lease, LeaseTable, is_live_lease, deadline_at, deadline_of, is_due, kept_alive, renewed, revoked}
-use Rattle.lease_clock.specs.declared.leases.LiveLease.{LiveLease}
-use Rattle.lease_clock.specs.Kept.{IsPlace, IsWithin, lease_of, leases_of}
+use Rattle.std.proofs.Common.{◌≡◌, ℕ, ◌+◌, Option, None, Some, Bool, true, false, IsTrue, List, [], ◌∷◌, ◌++◌, map, filter, get_or, cond, is_some, refl, ap, sym, ◌∙◌, subst, arith}
+use Rattle.std.proofs.lemmas.List.{map_push}
+use Rattle.store_api.specs.Leases.{Lease, LeaseTable, is_live_lease, deadline_at, deadline_of, renewed, revoked}
+use Rattle.lease_clock.specs.declared.tournament.KeptLease.{KeptLease}
+use Rattle.lease_clock.specs.Kept.{Entry, IsPlace, entries_of, entry_of, is_running, lease_of, leases_of, with_deadline}
 use Rattle.lease_clock.specs.Lapses.{IsNumbered}
-use Rattle.lease_clock.specs.Least.{IsKept, IsTournament}
-use Rattle.lease_clock.proofs.Numbers.{moved, gone, found, deadline_moved, numbered_set, numbered_remove, numbered_push, within_set, within_remove, within_push, numbered_filter, within_filter}
+use Rattle.lease_clock.specs.Least.{Ends, IsKept, IsTournament, Moves}
+use Rattle.lease_clock.proofs.Numbers.{deadline_moved, found, gone, leases_push, moved, nothing, numbered_live, numbered_push, numbered_with, running_again}
 
--- a removal is one of the table's lease too
-pub map-remove : (items : List LiveLease) (i : ℕ) → leases_of (remove items i) ≡ remove (leases_of items) i
-map-remove items i = map-append lease_of (take i items) (drop (suc i) items) ∙ ap₂ ◌++◌ (sym (take-map lease_of i items)) (sym (drop-map lease_of (suc i) items))
+-- a table with these leases
+abbrev pub table_of : ℕ → ℕ → List Lease → LeaseTable
+table_of now last live = record { now = now; live = live; last = last }
 
--- numbers and deadlines are those of the leases
-module _ (edited new : List LiveLease) (last : ℕ) (same : leases_of new ≡ leases_of edited) (settled : IsTournament new) where
-  pub kept_of : IsNumbered 0 (leases_of edited) last → IsWithin (2 ^ 64 - 1) (leases_of edited) → IsKept new last
-  kept_of numbered within = record {
-    numbered = rw same numbered;
-    within = rw same within;
+-- ---- a grant
+module _ (items new : List KeptLease) (last : ℕ) (w : KeptLease) (time : ℕ) (deadline : w.deadline ≡ Some time) (number : w.number ≡ last + 1) (same : entries_of new ≡ entries_of (items ++ w ∷ [])) where
+  entries_are : entries_of new ≡ entries_of items ++ entry_of w ∷ []
+  entries_are = same ∙ map_push entry_of items w
+
+  pub kept_push : IsKept items last → IsTournament new → IsKept new w.number
+  kept_push kept settled = record {
+    numbered = rw (entries_are, map_push lease_of (entries_of items) (entry_of w)) (numbered_push last 0 (map lease_of (entries_of items)) (lease_of (entry_of w)) kept.numbered (omega (arith, number)));
     settled = settled;
   }
 
--- a grant keeps the form
-pub kept_push : (items new : List LiveLease) (last : ℕ) (w : LiveLease) → IsKept items last → w.number ≡ last + 1 → w.deadline ≤ 2 ^ 64 - 1
-    → leases_of new ≡ leases_of (items ++ w ∷ []) → IsTournament new → IsKept new w.number
-kept_push items new last w kept e le same settled =
-    kept_of (items ++ w ∷ []) new w.number same settled
-    (rw (map_push lease_of items w) (numbered_push last 0 (leases_of items) (lease_of w) kept.numbered (omega (arith, e))))
-    (rw (map_push lease_of items w) (within_push (2 ^ 64 - 1) (leases_of items) (lease_of w) kept.within le))
+  pub leases_are : leases_of (entries_of new) ≡ leases_of (entries_of items) ++ lease_of (entry_of w) ∷ []
+  leases_are = ap leases_of entries_are ∙ leases_push (entries_of items) (entry_of w) (ap is_some deadline)
 
-module _ (items : List LiveLease) (now last n i : ℕ) (table : LeaseTable) (view : record { now = now; live = leases_of items; last = last } ≡ table) (kept : IsKept items last) (place : IsPlace table.live n (Some i)) where
-  live_is : leases_of items ≡ table.live
-  live_is = ap (λ (t : LeaseTable). t.live) view
+-- ---- another deadline at a place
+module _ (items new : List KeptLease) (last i : ℕ) (t : Option ℕ) (kept : IsKept items last) (moves : Moves items i t new) where
+  pub kept_move : IsKept new last
+  kept_move = record {
+    numbered = subst (λ (es : List Entry). IsNumbered 0 (map lease_of es) last) (sym moves.entries) (numbered_with last 0 i t (entries_of items) kept.numbered);
+    settled = moves.settled;
+  }
 
-  there : IsPlace (leases_of items) n (Some i)
-  there = subst (λ (live : List Lease). IsPlace live n (Some i)) (sym live_is) place
+  module _ (n now : ℕ) (place : IsPlace (entries_of items) n (Some i)) where
+    number_is : let e = get_or (entries_of items) i nothing in e.number ≡ n
+    number_is = (place.1 nothing).0
 
-  pub is_inside : i < length items
-  is_inside = omega (arith, there.0, length-map items lease_of)
+    running : IsTrue (is_running (get_or (entries_of items) i nothing))
+    running = (place.1 nothing).1
 
-  pub is_there : is_live_lease table.live n ≡ true
-  is_there = found n i table.live (record { number = 0; seconds = 0; deadline = 0 }) place.0 (place.1 (record { number = 0; seconds = 0; deadline = 0 }))
+    pub renews : (time : ℕ) → t ≡ Some time → let e = get_or (entries_of items) i nothing in time ≡ deadline_at now e.seconds
+        → leases_of (entries_of new) ≡ (renewed n (table_of now last (leases_of (entries_of items)))).live
+    renews time is at =
+        ap leases_of (moves.entries ∙ ap (λ (o : Option ℕ). with_deadline i o (entries_of items)) is)
+        ∙ moved last n now 0 i time (entries_of items) nothing kept.numbered place.0 number_is running at
 
-  pub kept_remove : (new : List LiveLease) → leases_of new ≡ leases_of (remove items i) → IsTournament new → IsKept new last
-  kept_remove new same settled =
-      kept_of (remove items i) new last same settled
-      (rw (map-remove items i) (numbered_remove last 0 i (leases_of items) kept.numbered))
-      (rw (map-remove items i) (within_remove (2 ^ 64 - 1) i (leases_of items) kept.within))
+    pub deadline_is : (time : ℕ) → t ≡ Some time → let e = get_or (entries_of items) i nothing in time ≡ deadline_at now e.seconds
+        → deadline_of n (table_of now last (leases_of (entries_of new))) ≡ Some time
+    deadline_is time is at = rw (renews time is at) (deadline_moved last n now 0 i (entries_of items) nothing kept.numbered place.0 number_is running ∙ ap Some (sym at))
 
-  pub revokes : record { now = now; live = leases_of (remove items i); last = last } ≡ revoked n table
-  revokes = rw (← view) (ap (λ (live : List Lease). record { now = now; live = live; last = last })
-      (map-remove items i ∙ gone last n 0 i (leases_of items) (record { number = 0; seconds = 0; deadline = 0 }) kept.numbered there.0 (there.1 _)))
+    pub revokes : t ≡ None → leases_of (entries_of new) ≡ (revoked n (table_of now last (leases_of (entries_of items)))).live
+    revokes is =
+        ap leases_of (moves.entries ∙ ap (λ (o : Option ℕ). with_deadline i o (entries_of items)) is)
+        ∙ gone last n 0 i (entries_of items) nothing kept.numbered place.0 number_is running
 
-  module _ (r : LiveLease) (time : ℕ) (read : r ≡ get_or items i r) (time_is : time ≡ deadline_at now r.seconds) where
-    abbrev pub written : LiveLease
-    written = record { number = r.number; seconds = r.seconds; deadline = time; least = r.least }
+    pub is_there : is_live_lease (leases_of (entries_of items)) n ≡ true
+    is_there = found last n i (entries_of items) nothing place.0 number_is running
 
-    read_view : get_or (leases_of items) i (lease_of r) ≡ lease_of r
-    read_view = get_or-map lease_of items i r (lease_of r) (omega (arith, there.0, length-map items lease_of)) ∙ ap lease_of (sym read)
+-- ---- a lapse
+pub kept_end : (items new : List KeptLease) (time last : ℕ) → IsKept items last → Ends items time new → IsKept new last
+kept_end items new time last kept ends = record { numbered = ends.numbered 0 last kept.numbered; settled = ends.settled }
 
-    number_is : r.number ≡ n
-    number_is = sym (ap (λ (lease : Lease). lease.number) read_view) ∙ there.1 (lease_of r)
+-- ---- ended leases are dropped
+left : (p : KeptLease → Bool) → ((x : KeptLease) → p x ≡ is_some x.deadline) → (items : List KeptLease) → entries_of (filter p items) ≡ filter is_running (entries_of items)
+left p is [] = refl
+left p is (x ∷ xs) =
+    let others = left p is xs in
+    rw (is x) (elim (is_some x.deadline) as (λ b. entries_of (cond b (x ∷ filter p xs) (filter p xs)) ≡ cond b (entry_of x ∷ filter is_running (entries_of xs)) (filter is_running (entries_of xs)))
+    [ true ↦ ap (λ (l : List Entry). entry_of x ∷ l) others | false ↦ others ])
 
-    written_is : lease_of written ≡ kept_alive now n (get_or (leases_of items) i (lease_of r))
-    written_is =
-        let same : (r.number == n) ≡ true = grind (arith, nat_tests, number_is) in
-        rw (read_view, same) (ap (λ (t : ℕ). record { number = r.number; seconds = r.seconds; deadline = t }) time_is)
+module _ (items new : List KeptLease) (last : ℕ) (p : KeptLease → Bool) (is : (x : KeptLease) → p x ≡ is_some x.deadline) (same : entries_of new ≡ entries_of (filter p items)) where
+  running_only : entries_of new ≡ filter is_running (entries_of items)
+  running_only = same ∙ left p is items
 
-    set_is : leases_of (set items i written) ≡ map (kept_alive now n) (leases_of items)
-    set_is = map-set lease_of items i written ∙ ap (set (leases_of items) i) written_is ∙ moved last n now 0 i (leases_of items) (lease_of r) kept.numbered there.0 (there.1 _)
+  pub kept_drop : IsKept items last → IsTournament new → IsKept new last
+  kept_drop kept settled = record {
+    numbered = subst (λ (es : List Entry). IsNumbered 0 (map lease_of es) last) (sym running_only) (numbered_live last 0 (entries_of items) kept.numbered);
+    settled = settled;
+  }
 
-    pub renews : record { now = now; live = leases_of (set items i written); last = last } ≡ renewed n table
-    renews = rw (← view) (ap (λ (live : List Lease). record { now = now; live = live; last = last }) set_is)
-
-    pub deadline_is : deadline_of n (record { now = now; live = leases_of (set items i written); last = last }) ≡ Some time
-    deadline_is = rw set_is (deadline_moved last n now 0 i (leases_of items) (lease_of r) kept.numbered there.0 (there.1 _)
-        ∙ ap (λ (lease : Lease). Some (deadline_at now lease.seconds)) read_view ∙ ap Some (sym time_is))
-
-    pub kept_set : (new : List LiveLease) → time ≤ 2 ^ 64 - 1 → leases_of new ≡ leases_of (set items i written) → IsTournament new → IsKept new last
-    kept_set new le same settled =
-        kept_of (set items i written) new last same settled
-        (rw (map-set lease_of items i written) (numbered_set last 0 i (leases_of items) (lease_of written) (lease_of r) kept.numbered (sym (ap (λ (lease : Lease). lease.number) read_view))))
-        (rw (map-set lease_of items i written) (within_set (2 ^ 64 - 1) i (leases_of items) (lease_of written) kept.within le))
-
--- the kept leases that are left are those of the table
-pub left : (now : ℕ) (items : List LiveLease) → leases_of (filter (λ (kept : LiveLease). not (is_due now (lease_of kept))) items) ≡ filter (λ (lease : Lease). not (is_due now lease)) (leases_of items)
-left now [] = refl
-left now (x ∷ xs) =
-    elim (not (is_due now (lease_of x))) as (λ b. leases_of (cond b (x ∷ filter (λ (kept : LiveLease). not (is_due now (lease_of kept))) xs) (filter (λ (kept : LiveLease). not (is_due now (lease_of kept))) xs))
-    ≡ cond b (lease_of x ∷ filter (λ (lease : Lease). not (is_due now lease)) (leases_of xs)) (filter (λ (lease : Lease). not (is_due now lease)) (leases_of xs)))
-    [ true ↦ ap (λ (l : List Lease). lease_of x ∷ l) (left now xs) | false ↦ left now xs ]
-
-pub kept_left : (now last : ℕ) (items edited new : List LiveLease) → IsKept items last → leases_of edited ≡ filter (λ (lease : Lease). not (is_due now lease)) (leases_of items)
-    → leases_of new ≡ leases_of edited → IsTournament new → IsKept new last
-kept_left now last items edited new kept are same settled =
-    kept_of edited new last same settled
-    (rw are (numbered_filter (λ (lease : Lease). not (is_due now lease)) last 0 (leases_of items) kept.numbered))
-    (rw are (within_filter (λ (lease : Lease). not (is_due now lease)) (2 ^ 64 - 1) (leases_of items) kept.within))
+  pub drops : leases_of (entries_of new) ≡ leases_of (entries_of items)
+  drops = ap leases_of running_only ∙ ap (map lease_of) (running_again (entries_of items))

@@ -2,15 +2,14 @@
 use Rattle.std.proofs.Common.{◌≡◌, ℕ, ◌<◌, ◌≤◌, List, [], ◌∷◌, map, filter, length, not, Bool, true, false, cond, ◌||◌, Option, Some, is_some, IsTrue, refl, ap, sym, ◌∙◌, arith}
 use Rattle.std.specs.List.{list_any, AllByRecursion}
 use Rattle.std.specs.Ordering.{nat_cmp, eq_by_cmp, is_eq}
-use Rattle.std.specs.Cmp.{IsTotalOrder, then_total, on_total, nat_cmp_total, tied_itself, eq_by_cmp_equiv}
+use Rattle.std.specs.Cmp.{IsTotalOrder, then_total, on_total, nat_cmp_total, tied_itself}
 use Rattle.std.specs.FinMap.{keys, contains_key-keys, get-from_entries}
 use Rattle.std.specs.FinMap.Entries.{find}
 use Rattle.std.specs.BTreeSet.{BTreeSet, IsOrdered}
 use Rattle.std.proofs.lemmas.Map.Lookups.{exact_unsigned, exact_pairs, btree_set_from_contains}
 use Rattle.store_api.specs.Leases.{Lease, LeaseTable, is_due, rank, rank_cmp, due_by_rank, due_leases, expired}
 use Rattle.store_api.proofs.CallerLemmas.{keys_rise}
-use Rattle.lease_clock.specs.declared.leases.LiveLease.{LiveLease}
-use Rattle.lease_clock.specs.Kept.{HasRanks, due_ranks, lease_of, leases_of}
+use Rattle.lease_clock.specs.Kept.{HasRanks, due_ranks}
 use Rattle.lease_clock.specs.Lapses.{DueInOrder}
 
 -- ranks are in one order
@@ -85,27 +84,6 @@ none_due now time [] h lt = refl
 none_due now time (x ∷ xs) h lt =
     let later : is_due now x ≡ false = grind (arith, Rattle.std.proofs.lemmas.Bool.Decides.nat_tests, h.0) in
     rw later (none_due now time xs h.1 lt)
-
--- the test of the ranks of the due leases among these
-abbrev pub any_rank : ℕ → ℕ × ℕ → List LiveLease → Bool
-any_rank now q live = list_any (same_rank q) (due_ranks now (leases_of live))
-
-swapped : (a b f : Bool) → (cond a true b || f) ≡ (b || (a || f))
-swapped true true f = refl
-swapped true false f = refl
-swapped false b f = refl
-
--- a step of the walk: a due lease's rank goes into the set, and another lease changes nothing
-pub one_due : (now : ℕ) (x : LiveLease) (rest : List LiveLease) (old new : Bool) (q : ℕ × ℕ) → x.deadline ≤ now
-    → new ≡ cond (same_rank (rank (lease_of x)) q) true old → (new || any_rank now q rest) ≡ (old || any_rank now q (x ∷ rest))
-one_due now x rest old new q le is =
-    let due : is_due now (lease_of x) ≡ true = grind (arith, Rattle.std.proofs.lemmas.Bool.Decides.nat_tests) in
-    rw (is, (eq_by_cmp_equiv rank_total).symm (rank (lease_of x)) q, due) (swapped (same_rank q (rank (lease_of x))) old (any_rank now q rest))
-
-pub not_due : (now : ℕ) (x : LiveLease) (rest : List LiveLease) (q : ℕ × ℕ) → now < x.deadline → any_rank now q rest ≡ any_rank now q (x ∷ rest)
-not_due now x rest q lt =
-    let later : is_due now (lease_of x) ≡ false = grind (arith, Rattle.std.proofs.lemmas.Bool.Decides.nat_tests) in
-    rw later refl
 
 -- where no lease is due, none ends
 none_ends : (now : ℕ) (live : List Lease) → list_any (is_due now) live ≡ false → filter (λ (lease : Lease). not (is_due now lease)) live ≡ live

@@ -1,26 +1,15 @@
-ghost use Rattle.std.specs.Prelude.{◌≡◌, ◌≢◌, ◌≤◌, ◌<◌, ◌+◌, ◌↔◌, ℕ, [], false, length, map, is_some, IsTrue, OnOk, OnErr, IfOk, IfSome, IfNone, OnSome, Some};
-ghost use Rattle.std.specs.List.{list_any};
-ghost use Rattle.store_api.specs.Leases.{is_live_lease, advanced, deadline_of, due_leases, expired, granted, is_due, no_leases, renewed, revoked};
-ghost use Rattle.lease_clock.specs.Kept.{HasRanks, IsPlace, at_time, due_ranks, leases_of};
-ghost use Rattle.lease_clock.specs.Least.{IsSettled, IsTournament, Settles, least_at};
+ghost use Rattle.std.specs.Prelude.{◌≡◌, ◌≤◌, ◌<◌, ◌+◌, ◌↔◌, length, is_some, IsTrue, OnErr, IfOk, IfSome, IfNone, OnSome, OnOk, Some};
+ghost use Rattle.store_api.specs.Leases.{is_live_lease, advanced, deadline_of, due_leases, expired, granted, no_leases, renewed, revoked};
+ghost use Rattle.lease_clock.specs.Kept.{at_time};
 ghost use Rattle.lease_clock.specs.Lapses.{IsNumbered};
 
+use crate::tournament::{
+    KeptLease, add_due, comes_by, end_due, least_at, place_of, set_deadline, settle_all, settle_up,
+};
 use mesh_base::Memory;
-use std::alloc::{AllocError, Global};
+use std::alloc::Global;
 use std::collections::BTreeSet;
 use std::marker::Model;
-
-/// A live lease.
-#[derive(Clone, Copy, Debug)]
-struct LiveLease {
-    number: u64,
-    /// The time to live that was granted.
-    seconds: u64,
-    deadline: u64,
-    /// The least deadline of this lease and of those under it, where those under the place `i` stand
-    /// at `2 * i + 1` and `2 * i + 2` and under these.
-    least: u64,
-}
 
 /// A clock in seconds, and the live leases.
 ///
@@ -29,8 +18,10 @@ struct LiveLease {
 #[derive(Debug, Drop)]
 pub struct Leases {
     clock: u64,
-    /// In order of their numbers. The first one keeps the least deadline of all.
-    live: Vec<LiveLease>,
+    /// In order of their numbers, ended ones too until they are half of all.
+    kept: Vec<KeptLease>,
+    /// How many of the kept ones have ended.
+    ended: usize,
     last: u64,
 }
 
@@ -39,12 +30,12 @@ impl Model for Leases {
 
     ghost Value = { LeaseTable };
 
-    ghost use Rattle.lease_clock.specs.Kept.{leases_of};
+    ghost use Rattle.lease_clock.specs.Kept.{entries_of, leases_of};
     ghost use Rattle.lease_clock.specs.Least.{IsKept};
 
-    ghost view = { λ a. record { now = a.clock; live = leases_of a.live.items; last = a.last } };
+    ghost view = { λ a. record { now = a.clock; live = leases_of (entries_of a.kept.items); last = a.last } };
 
-    ghost invariant = { λ a. IsKept a.live.items a.last };
+    ghost invariant = { λ a. IsKept a.kept.items a.last };
 }
 
 impl Leases {
@@ -54,7 +45,8 @@ impl Leases {
     {
         Leases {
             clock: 0,
-            live: Vec::new(alloc),
+            kept: Vec::new(alloc),
+            ended: 0,
             last: 0,
         }
     }
@@ -70,14 +62,14 @@ impl Leases {
     pub fn is_numbered(&self)
         ensures { IsNumbered 0 self.now.live self.now.last }
     {
-        let _ = &self.live;
+        let _ = &self.kept;
     }
 
     /// Whether the lease is live. Logarithmic in the live leases.
     pub fn is_live(&self, lease: u64) -> bool
         ensures { result ≡ is_live_lease self.now.live lease }
     {
-        self.place(lease).is_some()
+        place_of(&self.kept, lease).is_some()
     }
 
     /// Grants a lease of so many seconds, and answers its number (etcd: LeaseGrant).
@@ -94,14 +86,14 @@ impl Leases {
         let Some(number) = self.last.checked_add(1) else {
             return Err(Memory);
         };
-        let place = self.live.len();
-        self.live.push(LiveLease {
+        let place = self.kept.len();
+        self.kept.push(KeptLease {
             number,
             seconds,
-            deadline: self.clock.saturating_add(seconds),
-            least: u64::MAX,
+            deadline: Some(self.clock.saturating_add(seconds)),
+            least: None,
         })?;
-        settle_up(&mut self.live, place);
+        settle_up(&mut self.kept, place);
         self.last = number;
         Ok(number)
     }
@@ -115,11 +107,9 @@ impl Leases {
         ensures renewed { OnSome result (self.new ≡ renewed lease self.old) }
         ensures refused { IfNone result (self.new ≡ self.old) }
     {
-        let place = self.place(lease)?;
-        let kept = &mut self.live[place];
-        let deadline = self.clock.saturating_add(kept.seconds);
-        kept.deadline = deadline;
-        settle_up(&mut self.live, place);
+        let place = place_of(&self.kept, lease)?;
+        let deadline = self.clock.saturating_add(self.kept[place].seconds);
+        set_deadline(&mut self.kept, place, Some(deadline));
         Some(deadline)
     }
 
@@ -146,7 +136,7 @@ impl Leases {
 
     /// The live leases whose deadline is not after the time, by deadline and then number.
     ///
-    /// One walk over the live leases, and the due ones once more in order.
+    /// Costs the due leases, each logarithmic in the live ones.
     pub fn due(&self, alloc: Global) -> Result<Vec<u64>, Memory>
         ensures { IfOk result (λ due. due.items ≡ due_leases self.now) }
     {
@@ -160,116 +150,56 @@ impl Leases {
         self.due_at(alloc, self.clock.saturating_add(seconds))
     }
 
-    /// Ends every lease that is due. Linear in the live leases; takes no memory.
+    /// Ends every lease that is due. Takes no memory. Costs the leases that end, each logarithmic in
+    /// the live ones: ended ones are dropped once they are more than half of all.
     pub fn expire(&mut self)
         ensures { self.new ≡ expired self.old }
     {
-        let now = self.clock;
-        self.live.retain(|lease| lease.deadline > now);
-        settle_all(&mut self.live);
+        let ended = end_due(&mut self.kept, self.clock);
+        self.ended = self.ended.saturating_add(ended);
+        self.drop_ended();
     }
 
     /// Ends the lease, and answers whether it was live (etcd: LeaseRevoke).
     ///
-    /// Linear in the live leases; takes no memory.
+    /// Takes no memory, and costs as one lease that lapses.
     pub fn revoke(&mut self, lease: u64) -> bool
         ensures live { result ≡ is_live_lease self.old.live lease }
         ensures revoked { self.new ≡ revoked lease self.old }
     {
-        match self.place(lease) {
-            Some(place) => {
-                self.live.remove(place);
-                settle_all(&mut self.live);
-                true
-            }
-            None => false,
-        }
+        let Some(place) = place_of(&self.kept, lease) else {
+            return false;
+        };
+        set_deadline(&mut self.kept, place, None);
+        self.ended = self.ended.saturating_add(1);
+        self.drop_ended();
+        true
     }
 
     // Whether a lease is due at this time.
     fn has_due_at(&self, time: u64) -> bool
         ensures { IsTrue result ↔ (0 < length (due_leases (at_time time self.now))) }
     {
-        !self.live.is_empty() && least_at(&self.live, 0) <= time
+        comes_by(least_at(&self.kept, 0), time)
     }
 
     // The leases that are due at this time, by deadline and then number.
     fn due_at(&self, alloc: Global, time: u64) -> Result<Vec<u64>, Memory>
         ensures { IfOk result (λ due. due.items ≡ due_leases (at_time time self.now)) }
     {
-        let ranks = due_ranks(alloc, &self.live, time)?;
+        let mut ranks = BTreeSet::new(alloc);
+        add_due(&self.kept, 0, time, &mut ranks)?;
         Ok(ranks.iter().map(|rank| rank.1).collect(alloc)?)
     }
 
-    // The place of the lease among the live ones.
-    fn place(&self, number: u64) -> Option<usize>
-        ensures { IsPlace self.now.live number result }
+    // Drops the ended leases once they are more than half of all.
+    fn drop_ended(&mut self)
+        ensures { self.new ≡ self.old }
     {
-        self.live
-            .binary_search_by_key(&number, |lease| lease.number)
-            .ok()
-    }
-}
-
-// The least deadline kept at the place, or the clock's last value where no lease stands.
-fn least_at(live: &[LiveLease], place: usize) -> u64
-    ensures { result ≡ least_at live.now place }
-{
-    match live.get(place) {
-        Some(lease) => lease.least,
-        None => u64::MAX,
-    }
-}
-
-// Keeps at the place the least of its own deadline and of what the two places under it keep.
-fn settle(live: &mut [LiveLease], place: usize)
-    requires { place < length live.old }
-    ensures { Settles live.old place live.new }
-{
-    let left = least_at(live, 2 * place + 1);
-    let right = least_at(live, 2 * place + 2);
-    let kept = &mut live[place];
-    kept.least = kept.deadline.min(left).min(right);
-}
-
-// Settles the place, and those that it stands under up to the first one.
-fn settle_up(live: &mut [LiveLease], from: usize)
-    requires place { from < length live.old }
-    requires others { (place : ℕ) → place ≢ from → IsSettled live.old place }
-    ensures leases { leases_of live.new ≡ leases_of live.old }
-    ensures settled { IsTournament live.new }
-{
-    let mut place = from;
-    settle(live, place);
-    while place > 0 {
-        place = (place - 1) / 2;
-        settle(live, place);
-    }
-}
-
-// Settles each place, those under it first.
-fn settle_all(live: &mut [LiveLease])
-    ensures leases { leases_of live.new ≡ leases_of live.old }
-    ensures settled { IsTournament live.new }
-{
-    for place in (0..live.len()).rev() {
-        settle(live, place);
-    }
-}
-
-// The deadline and number of each lease that is due at this time.
-fn due_ranks(
-    alloc: Global,
-    live: &[LiveLease],
-    now: u64,
-) -> Result<BTreeSet<(u64, u64)>, AllocError>
-    ensures { IfOk result (λ ranks. HasRanks ranks (due_ranks now (leases_of live.now))) }
-{
-    let mut ranks = BTreeSet::new(alloc);
-    for lease in live {
-        if lease.deadline <= now {
-            ranks.insert((lease.deadline, lease.number))?;
+        if self.ended > self.kept.len() / 2 {
+            self.kept.retain(|lease| lease.deadline.is_some());
+            settle_all(&mut self.kept);
+            self.ended = 0;
         }
     }
-    Ok(ranks)
 }

@@ -1,7 +1,7 @@
 //! A clock in seconds, and the leases that live by it.
 //!
-//! `leases` has the table of the live leases with its calls, and `laws` what holds of the order in
-//! which leases lapse.
+//! `leases` has the table of the live leases with its calls, `tournament` how their least deadline
+//! is kept at hand, and `laws` what holds of the order in which leases lapse.
 //! It knows nothing of keys, stores or threads.
 #![tactic(auto)]
 
@@ -9,6 +9,7 @@ mod laws;
 mod leases;
 #[cfg(test)]
 mod tests;
+mod tournament;
 
 pub use laws::due_leases_in_order;
 pub use leases::Leases;

@@ -96,3 +96,31 @@ fn a_revoked_lease_is_live_no_more_and_its_number_is_not_granted_again(
     assert_eq!(rt; leases.grant(5), Ok(2));
     Ok(())
 }
+
+#[test]
+fn lapses_drop_the_ended_leases_and_keep_the_others(rt: HostRuntime) -> Result<(), Fail> {
+    let alloc = rt.alloc();
+    let mut leases = Leases::new(alloc);
+    for _ in 0..4 {
+        let _ = leases.grant(10)?;
+        let _ = leases.grant(30)?;
+    }
+    assert!(rt; leases.revoke(2));
+    leases.advance(10);
+    assert_eq!(rt; leases.due(alloc)?.as_slice(), [1, 3, 5, 7].as_slice());
+    leases.expire();
+    assert!(rt; !leases.has_due());
+    for ended in [1, 2, 3, 5, 7] {
+        assert!(rt; !leases.is_live(ended));
+        assert_eq!(rt; leases.renew(ended), None);
+    }
+    assert_eq!(rt; leases.renew(4), Some(40));
+    assert_eq!(rt; leases.grant(1), Ok(9));
+    leases.advance(20);
+    assert_eq!(rt; leases.due(alloc)?.as_slice(), [9, 6, 8].as_slice());
+    leases.expire();
+    assert!(rt; leases.is_live(4));
+    assert!(rt; !leases.has_due_after(9));
+    assert!(rt; leases.has_due_after(10));
+    Ok(())
+}

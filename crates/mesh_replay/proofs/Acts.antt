@@ -1,11 +1,11 @@
 -- What one line of a scenario does, and the lines in order.
-use Rattle.std.proofs.Common.{◌≡◌, ℕ, ◌+◌, ◌<◌, List, [], ◌∷◌, length, map, drop, get_or, refl, ap, sym, ◌∙◌, subst, add-one}
+use Rattle.std.proofs.Common.{◌≡◌, ℕ, ◌+◌, ◌<◌, List, ◌∷◌, length, drop, get_or, refl, ap, sym, ◌∙◌, subst, add-one}
 use Rattle.std.proofs.Math.Seq.{drop-cons}
 use Rattle.scenario_lang.specs.declared.scenario.Action.{Action}
 use Rattle.store_api.specs.Meaning.{Meaning}
 use Rattle.mesh_replay.specs.Actions.{Does, act, act_all}
 use Rattle.mesh_replay.specs.Asking.{Outcome, done}
-use Rattle.mesh_replay.specs.Goes.{Goes, Leads}
+use Rattle.mesh_replay.specs.Goes.{Goes}
 use Rattle.mesh_replay.specs.Shown.{HasWorld, Makes}
 use Rattle.mesh_replay.specs.World.{World}
 use Rattle.mesh_replay.specs.declared.replay.Replay.{Replay}

@@ -12,13 +12,11 @@ use Rattle.scenario_lang.specs.declared.scenario.LinkName.{LinkName}
 use Rattle.scenario_lang.specs.declared.scenario.LinkName.TheVariants as link
 use Rattle.flaky_link.specs.Link.{Link}
 use Rattle.store_api.specs.Contents.{Contents, empty_contents}
-use Rattle.store_api.specs.Meaning.{Meaning}
-use Rattle.mesh_replay.specs.Actions.{Does, restarted, changes}
+use Rattle.mesh_replay.specs.Actions.{Does}
 use Rattle.mesh_replay.specs.Asking.{Outcome}
-use Rattle.mesh_replay.specs.Records.{declaring_node, withdrawing}
-use Rattle.mesh_replay.specs.Shown.{AreShown, Changes, HasWorld, IsShown, MakesPlainly, names_in}
+use Rattle.mesh_replay.specs.Shown.{AreShown, Changes, HasWorld, IsShown, MakesPlainly}
 use Rattle.mesh_replay.specs.World as world
-use Rattle.mesh_replay.specs.World.{World, at_remote, no_remote, remote_at, with_link}
+use Rattle.mesh_replay.specs.World.{World, at_remote, no_remote, with_link}
 use Rattle.mesh_replay.specs.declared.remote.Remote.{Remote}
 use Rattle.mesh_replay.specs.declared.replay.Replay.{Replay}
 use Rattle.mesh_replay.proofs.Places.{as_many, shown_at}

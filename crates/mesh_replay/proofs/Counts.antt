@@ -1,5 +1,5 @@
 -- An action leaves as many remotes as there are.
-use Rattle.std.proofs.Common.{◌≡◌, ℕ, zero, suc, ◌+◌, List, [], ◌∷◌, ◌++◌, length, map, drop, Option, None, Some, refl, ap, sym, ◌∙◌}
+use Rattle.std.proofs.Common.{◌≡◌, ℕ, zero, suc, ◌+◌, List, [], ◌∷◌, ◌++◌, length, drop, Option, None, Some, refl, ap, sym, ◌∙◌}
 use Rattle.std.proofs.lemmas.List.{length-map, length-set}
 use Rattle.flaky_link.specs.Link.{fate, failed, passed, Link}
 use Rattle.flaky_link.specs.declared.state.Fate.{Fate}
@@ -16,7 +16,7 @@ use Rattle.store_api.specs.Spans.{unread}
 use Rattle.mesh_replay.specs.Actions.{Does, act, asks, asked, at_exporter, export_items, exported_by, exporter_at, if_answered, keep_lease, kept_by, most, raw_op, started_by, tick_from, to_tick, turned_by, when_of, with_failure, with_way}
 use Rattle.mesh_replay.specs.Asking.{Outcome, Made, LostBefore, LostAfter, done, ask, ask_by, ask_through, at_link, counted, counted_lost, end_of, made_of}
 use Rattle.mesh_replay.specs.Records.{address_key, address_of, declaring, declaring_node, identity_key, identity_of, withdrawing}
-use Rattle.mesh_replay.specs.Shown.{HasSomeWorld, HasWorld, Makes}
+use Rattle.mesh_replay.specs.Shown.{HasSomeWorld, Makes}
 use Rattle.mesh_replay.specs.World.{Remote, World, at_remote, at_store, contents_at, link_of, remote_at, store_of, with_exporter, with_link, with_reader}
 use Rattle.mesh_replay.specs.declared.replay.Replay.{Replay}
 use Rattle.mesh_replay.proofs.Places.{as_many}

@@ -1,5 +1,5 @@
 -- Where no call is lost, a run is a function of the scenario and the first contents.
-use Rattle.std.proofs.Common.{◌≡◌, ℕ, zero, suc, ◌+◌, ◌≤◌, ◌==◌, List, [], ◌∷◌, ◌++◌, map, length, Option, None, Some, Bool, true, false, if◌then◌else◌, refl, ap, sym, ◌∙◌, subst, arith, inl, inr}
+use Rattle.std.proofs.Common.{◌≡◌, ℕ, zero, suc, ◌+◌, List, [], ◌∷◌, length, Option, None, Some, Bool, if◌then◌else◌, refl, ap, sym, ◌∙◌, subst, arith, inl, inr}
 use Rattle.std.proofs.lemmas.Bool.Decides.{eqb_tells}
 use Rattle.std.proofs.lemmas.List.{append-nil}
 use Rattle.flaky_link.specs.Link.{fate, failed, passed}
@@ -14,9 +14,9 @@ use Rattle.scenario_lang.specs.declared.scenario.LinkName.TheVariants as link
 use Rattle.store_api.specs.Contents.{Contents}
 use Rattle.store_api.specs.Crossing.{Request, Ending, Answers, Refuses, WantsMemory, IsLost, to_commit}
 use Rattle.store_api.specs.Meaning.{Meaning}
-use Rattle.mesh_replay.specs.Actions.{Does, act, act_all, asks, at_exporter, changes, export, export_items, exported_by, if_answered, keep, keep_lease, kept_by, raw_op, run, start, started_by, tick_from, to_tick, turn, turned_by, write_raw, most, asked, exporter_at, reported, restarted, when_of, with_failure, with_way}
-use Rattle.mesh_replay.specs.Asking.{Outcome, Made, LostBefore, LostAfter, Step, done, ask, ask_by, ask_through, at_link, counted, end_of, made_of}
-use Rattle.mesh_replay.specs.Goes.{Leads, faults_at, losses, occurrences}
+use Rattle.mesh_replay.specs.Actions.{Does, act, act_all, asks, at_exporter, changes, export_items, exported_by, if_answered, keep_lease, kept_by, raw_op, run, started_by, tick_from, to_tick, turned_by, most, asked, exporter_at, reported, restarted, when_of, with_failure, with_way}
+use Rattle.mesh_replay.specs.Asking.{Outcome, Made, LostBefore, LostAfter, done, ask, ask_by, ask_through, at_link, counted, end_of, made_of}
+use Rattle.mesh_replay.specs.Goes.{losses, occurrences}
 use Rattle.mesh_replay.specs.Program.{NoneFailed, Reports, contents_of}
 use Rattle.mesh_replay.specs.Records.{address_key, address_of, declaring, declaring_node, identity_key, identity_of, withdrawing}
 use Rattle.mesh_replay.specs.World.{Remote, World, at_remote, at_store, contents_at, first_world, link_of, remote_at, store_of, with_exporter, with_reader}

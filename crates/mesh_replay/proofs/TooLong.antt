@@ -1,5 +1,5 @@
 -- A text with a byte too many has that as its first fault.
-use Rattle.std.proofs.Common.{◌≡◌, ◌<◌, ℕ, List, length, Bool, true, refl, Err, ap, ◌∙◌}
+use Rattle.std.proofs.Common.{◌≡◌, ◌<◌, ℕ, List, length, refl, Err}
 use Rattle.std.proofs.lemmas.Bool.{lt-ltb}
 use Rattle.scenario_lang.specs.Lines.{scenario_of}
 use Rattle.scenario_lang.specs.declared.kinds.LineKind.TheVariants as kind

@@ -1,5 +1,5 @@
 -- A whole scenario: the reports are those of the world that it leads to.
-use Rattle.std.proofs.Common.{◌≡◌, ℕ, List, length, map, drop, Option, None, Some, IfSome, Err, Ok, sym, ◌∙◌, subst}
+use Rattle.std.proofs.Common.{◌≡◌, ℕ, List, length, drop, Option, None, Some, IfSome, Err, Ok, sym, ◌∙◌, subst}
 use Rattle.std.specs.List.{All}
 use Rattle.std.proofs.lemmas.List.{length-map}
 use Rattle.scenario_lang.specs.Lines.{Said, scenario_of}
@@ -14,7 +14,7 @@ use Rattle.mesh_replay.specs.Actions.{act_all}
 use Rattle.mesh_replay.specs.Asking.{done}
 use Rattle.mesh_replay.specs.Program.{NoneFailed, Ran, RanPlainly, Reports, WroteFront, WroteSome, OfRefusal, contents_of, refusal_line}
 use Rattle.mesh_replay.specs.Shown.{HasWorld, Makes}
-use Rattle.mesh_replay.specs.World.{World, first_world, new_remote, seconds_of}
+use Rattle.mesh_replay.specs.World.{first_world, new_remote, seconds_of}
 use Rattle.mesh_replay.specs.declared.replay.Replay.{Replay}
 use Rattle.mesh_replay.proofs.Places.{as_many}
 use Rattle.mesh_replay.proofs.Plainly.{plainly}

@@ -1,12 +1,12 @@
 -- A turn without a limit ends where its store is.
-use Rattle.std.proofs.Common.{◌≡◌, ℕ, zero, suc, ◌+◌, ◌-◌, ◌^◌, ◌<◌, ◌≤◌, List, [], ◌∷◌, Bool, true, false, if◌then◌else◌, min, leb, refl, sym, ◌∙◌, arith}
+use Rattle.std.proofs.Common.{◌≡◌, ℕ, zero, suc, ◌+◌, ◌-◌, ◌^◌, ◌<◌, ◌≤◌, List, [], ◌∷◌, Bool, true, false, if◌then◌else◌, min, leb, refl, arith}
 use Rattle.std.proofs.Math.Bool.{or-true}
 use Rattle.std.proofs.lemmas.Bool.{le-leb, false≢true}
 use Rattle.relist_merge.specs.Records.{IsRecord}
-use Rattle.store_api.specs.Advance.{closed, listed_at, moved_to, pulled, turned, turned_spans}
+use Rattle.store_api.specs.Advance.{closed, moved_to, turned_spans}
 use Rattle.store_api.specs.Followed.{Followed, in_at}
 use Rattle.store_api.specs.History.{History, revision}
-use Rattle.store_api.specs.Spans.{Record, Span, is_up, some_from}
+use Rattle.store_api.specs.Spans.{Span, some_from}
 use Rattle.mesh_replay.specs.Program.{EndsWhole, TurnsEndWhole}
 
 -- what passes at the last number passes somewhere

@@ -4,7 +4,7 @@
 use Rattle.std.specs.Prelude.{ℕ, zero, suc, ◌+◌, ◌-◌, ◌^◌, List, [], ◌∷◌, ◌++◌, map, length, Bool, not, true, false, if◌then◌else◌, Option, None, Some}
 use Rattle.store_api.specs.Advance.{closed, turned}
 use Rattle.store_api.specs.Contents.{Contents, after_tick, after_compact}
-use Rattle.store_api.specs.Crossing.{Request, Ending, Answers, Refuses, WantsMemory, IsLost, to_list, to_pull, to_commit, to_grant, to_keep_alive}
+use Rattle.store_api.specs.Crossing.{Request, Ending, Answers, Refuses, IsLost, to_list, to_pull, to_commit, to_grant, to_keep_alive}
 use Rattle.store_api.specs.History.{revision}
 use Rattle.store_api.specs.Spans.{Record, cursor_of, unread}
 use Rattle.store_api.specs.declared.change.Op.{Op}

@@ -1,5 +1,5 @@
 -- What the program keeps of a world, and what each of its steps does to that.
-use Rattle.std.specs.Prelude.{◌≡◌, ℕ, ◌≤◌, ◌<◌, ◌^◌, List, [], ◌∷◌, map, drop, length}
+use Rattle.std.specs.Prelude.{◌≡◌, ℕ, ◌≤◌, List, [], ◌∷◌, map, drop, length}
 use Rattle.std.specs.List.{All, IsDistinct}
 use Rattle.mesh_base.specs.Order.{same_bytes}
 use Rattle.exporter.specs.State.{Export}

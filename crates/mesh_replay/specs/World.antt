@@ -1,7 +1,7 @@
 -- What there is while a scenario runs: the stores, and what exporters, links and readers keep.
 -- Source: Cilium's ClusterMesh documentation (a cluster exports its records to its own store, and the
 -- agents of other clusters read them there).
-use Rattle.std.specs.Prelude.{ℕ, ◌+◌, List, [], ◌∷◌, map, slice_index_or, slice_set, Bool, false, Option, None, Some}
+use Rattle.std.specs.Prelude.{ℕ, ◌+◌, List, [], map, slice_index_or, slice_set, false, Option, None, Some}
 use Rattle.store_api.specs.Contents.{Contents, empty_contents}
 use Rattle.store_api.specs.Spans.{Record, unread}
 use Rattle.flaky_link.specs.Link.{Link}

@@ -1,6 +1,5 @@
 // A word of each form.
-ghost use Rattle.std.specs.Prelude.{◌≡◌, ◌∷◌, ◌-◌, ◌^◌, [], ℕ, List, IfOk, IfErr, OnErr, Ok, Err, Some, None, option_map, is_some};
-ghost use Rattle.mesh_text.specs.Escapes.{unescaped};
+ghost use Rattle.std.specs.Prelude.{◌≡◌, ◌∷◌, ◌-◌, ◌^◌, [], IfOk, OnErr, Ok, Err, Some, None};
 ghost use Rattle.scenario_lang.specs.Answers.{Gives};
 ghost use Rattle.scenario_lang.specs.Clusters.{names_of};
 ghost use Rattle.mesh_records.specs.Identity.{identity_of};

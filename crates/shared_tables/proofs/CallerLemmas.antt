@@ -1,9 +1,8 @@
 -- What callers cite: rows that are the same up to order, and a key's first row as a change.
-use Rattle.std.proofs.Common.{◌≡◌, ℕ, List, [], ◌∷◌, IsTrue, Option, None, Some, Ok, Err, refl, sym, subst, ◌⊎◌, inl}
+use Rattle.std.proofs.Common.{◌≡◌, ℕ, List, IsTrue, Option, None, Some, refl, sym, subst, inl}
 use Rattle.std.specs.FinMap.{get}
 use Rattle.record_check.specs.Reading.{reading_of}
 use Rattle.shared_tables.specs.declared.change.Row.{Row}
-use Rattle.shared_tables.specs.declared.change.RecordChange.{RecordChange}
 use Rattle.shared_tables.specs.RecordSets.{Reading, is_record_key}
 use Rattle.shared_tables.specs.Told.{SourceTold, IsChange, IsRow}
 pub use Rattle.shared_tables.proofs.Weights.{SameRows-refl, SameRows-append, SameRows-flat_map, SameRows-map, SameRows-filter, list_any-SameRows}

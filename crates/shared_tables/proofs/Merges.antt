@@ -1,9 +1,9 @@
 -- The merge of what arrived is the merge of the sets.
-use Rattle.std.proofs.Common.{◌≡◌, ℕ, List, [], ◌∷◌, map, filter, not, ◌&&◌, ◌||◌, ◌==◌, nat_lt, cond, Bool, Option, None, Some, Ok, Err, refl, ap, sym, subst, ◌∙◌}
+use Rattle.std.proofs.Common.{◌≡◌, ℕ, List, [], ◌∷◌, map, filter, not, ◌&&◌, ◌||◌, ◌==◌, cond, Bool, None, Some, Ok, Err, refl, ap, sym, subst, ◌∙◌}
 use Rattle.std.proofs.Math.Path.{fun_ext}
 use Rattle.std.specs.FinMap.{entries, from_entries}
 use Rattle.std.specs.BTreeMap.{BTreeMap}
-use Rattle.std.specs.List.{flat_map, list_any}
+use Rattle.std.specs.List.{flat_map}
 use Rattle.std.specs.Ordering.{nat_cmp, is_lt}
 use Rattle.std.specs.Cmp.Lexicographic.{slice_cmp}
 use Rattle.mesh_text.specs.declared.ip.Ip.{Ip}
@@ -18,7 +18,7 @@ use Rattle.shared_tables.specs.declared.source.Source.{Source}
 use Rattle.shared_tables.specs.declared.standing.Standing.{Standing}
 use Rattle.shared_tables.specs.declared.standing.Standing.TheVariants.{NoConfig, Refused, Admitted}
 use Rattle.shared_tables.specs.Admission.{has_number, is_taken, standing_of}
-use Rattle.shared_tables.specs.Merge.{Claim, Entry, IsMerge, address_rows, backend_rows, claim, claims, identity_row, identity_rows, is_before, is_least, least_claims, node_row, node_rows, pair_reject, part, parts, reject_rows, rejects, service_rows, standing, valid_of}
+use Rattle.shared_tables.specs.Merge.{Claim, IsMerge, address_rows, backend_rows, claim, claims, identity_row, identity_rows, is_before, is_least, least_claims, node_row, node_rows, pair_reject, part, parts, reject_rows, rejects, service_rows, standing, valid_of}
 use Rattle.shared_tables.specs.Least.{TellsOf, has_lesser}
 use Rattle.shared_tables.specs.Merged.{arrived, nothing_merged, with_rows}
 use Rattle.shared_tables.specs.RecordSets.{ConfigSaid, Reading, RecordSet}

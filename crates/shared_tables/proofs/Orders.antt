@@ -1,17 +1,15 @@
 -- Record sets in another order give the same rows.
-use Rattle.std.proofs.Common.{◌≡◌, ℕ, List, filter, not, ◌&&◌, ◌==◌, cond, Bool, Option, None, Some, Ok, Err, refl, ap, subst, sym, ◌∙◌}
+use Rattle.std.proofs.Common.{◌≡◌, ℕ, List, ◌&&◌, ◌==◌, cond, Bool, None, Some, Ok, Err, refl, ap, subst, sym, ◌∙◌}
 use Rattle.std.proofs.Math.Path.{fun_ext}
 use Rattle.std.specs.List.{flat_map}
 use Rattle.std.specs.Ordering.{nat_cmp, is_lt}
 use Rattle.std.specs.Cmp.Lexicographic.{slice_cmp}
-use Rattle.record_check.specs.declared.limit.Limit.{Limit}
-use Rattle.shared_tables.specs.declared.rows.Report.{Report}
 use Rattle.shared_tables.specs.declared.rows.Why.TheVariants as why
 use Rattle.shared_tables.specs.declared.standing.Standing.{Standing}
 use Rattle.shared_tables.specs.declared.standing.Standing.TheVariants.{Refused, Admitted}
 use Rattle.shared_tables.specs.Admission.{has_number, is_taken, standing_of}
-use Rattle.shared_tables.specs.Laws.{HaveSameRows, OrderSaysNothing}
-use Rattle.shared_tables.specs.Merge.{Claim, IsMerge, claim, identity_row, node_row, part, parts, rejects, service_rows, standing}
+use Rattle.shared_tables.specs.Laws.{OrderSaysNothing}
+use Rattle.shared_tables.specs.Merge.{Claim, claim, identity_row, node_row, part, parts, rejects, service_rows, standing}
 use Rattle.shared_tables.specs.RecordSets.{ConfigSaid, RecordSet}
 use Rattle.shared_tables.specs.Rows.{SameRows}
 use Rattle.shared_tables.proofs.Merges.{same_least}

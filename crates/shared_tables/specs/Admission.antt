@@ -1,7 +1,7 @@
 -- Which sources are admitted.
 -- Source: Cilium's ClusterMesh documentation (a cluster's number is unique in the mesh). Which of
 -- several clusters with one number is admitted is this project's own.
-use Rattle.std.specs.Prelude.{ℕ, List, ◌&&◌, ◌==◌, Bool, false, Option, None, Some, Ok, Err, if◌then◌else◌}
+use Rattle.std.specs.Prelude.{ℕ, List, ◌&&◌, ◌==◌, Bool, false, None, Some, Ok, Err, if◌then◌else◌}
 use Rattle.std.specs.List.{list_any}
 use Rattle.std.specs.Ordering.{nat_cmp, is_lt}
 use Rattle.std.specs.Cmp.Lexicographic.{slice_cmp}

@@ -13,7 +13,6 @@ use Rattle.key_paths.specs.Paths.{config_key}
 use Rattle.record_check.specs.declared.fault.Fault.{Fault}
 use Rattle.record_check.specs.declared.limit.Limit.{Limit}
 use Rattle.record_check.specs.Judging.{judgement, same_ip}
-use Rattle.shared_tables.specs.declared.rows.Why.{Why}
 use Rattle.shared_tables.specs.declared.rows.Why.TheVariants as why
 use Rattle.shared_tables.specs.declared.rows.NodeRow.{NodeRow}
 use Rattle.shared_tables.specs.declared.rows.IdentityRow.{IdentityRow}

@@ -1,6 +1,6 @@
 -- What a call says of whatever lies between the caller and the store, as a link with planned failures.
 -- The form is this project's own.
-use Rattle.std.specs.Prelude.{ℕ, ◌+◌, leb, not, Bool, false, is_some, Result, Ok, Err}
+use Rattle.std.specs.Prelude.{ℕ, leb, not, Bool, false, is_some, Result, Ok, Err}
 use Rattle.store_api.specs.Contents.{Contents, after_commit, after_grant, after_keep_alive, dead_lease, unchanged}
 use Rattle.store_api.specs.Leases.{is_live_lease}
 use Rattle.store_api.specs.declared.change.Op.{Op}

@@ -1,42 +1,60 @@
-use Rattle.std.proofs.Common.{◌≡◌, List, length, ap, subst, sym, ◌∙◌, arith}
+use Rattle.std.proofs.Common.{◌≡◌, List, Some, length, ap, refl, subst, sym, ◌∙◌, arith}
 use Rattle.std.proofs.lemmas.List.{with_items_is}
-use Rattle.std.specs.Vec.{with_item}
-use Rattle.store_api.specs.Leases.{Lease, LeaseTable, deadline_of}
-use Rattle.lease_clock.specs.declared.leases.LiveLease.{LiveLease}
-use Rattle.lease_clock.specs.Kept.{leases_of}
-use Rattle.lease_clock.specs.Least.{IsKept}
-use Rattle.lease_clock.proofs.Edits.{is_inside, is_there, renews, deadline_is, kept_set}
-use Rattle.lease_clock.proofs.Tournament.{settled_set}
+use Rattle.store_api.specs.Leases.{LeaseTable, deadline_at, deadline_of, is_live_lease, renewed}
+use Rattle.lease_clock.specs.declared.tournament.KeptLease.{KeptLease}
+use Rattle.lease_clock.specs.Kept.{Entry, IsPlace, entries_of, leases_of}
+use Rattle.lease_clock.specs.Least.{IsKept, Moves}
+use Rattle.lease_clock.proofs.Edits.{deadline_is, is_there, kept_move, renews, table_of}
+use Rattle.lease_clock.proofs.Numbers.{nothing}
+use Rattle.lease_clock.proofs.Places.{at_entry, placed}
 use Rattle.lease_clock.proofs.leases.Leases.renew.Goals as goal
-
-pub settle_up-requires-clause-others : goal.settle_up-requires-clause-others
-settle_up-requires-clause-others c =
-    rw c.deref_mut.ensures.value (settled_set c.self.inside.live.items c.in_ok-place.place c.index_mut-kept.result.now c.saturating_add-deadline.result
-    (is_inside _ _ _ _ _ _ c.self.view_is c.self.invariant c.in_ok-place.ensures) c.index_mut-kept.ensures.value c.self.invariant.settled)
 
 pub invariant_of-self : goal.invariant_of-self
 invariant_of-self c =
-    let edited = with_item c.self.inside.live c.in_ok-place.place (record { number = c.index_mut-kept.result.now.number; seconds = c.index_mut-kept.result.now.seconds; deadline = c.saturating_add-deadline.result; least = c.index_mut-kept.result.now.least }) in
-    let same = c.settle_up.ensures.leases ∙ ap leases_of c.deref_mut.ensures.value in
-    let len : length c.settle_up.new.live ≡ c.self.inside.live.len = omega (arith, c.settle_up.auto.live, c.deref_mut.ensures.len) in
-    subst (λ (items : List LiveLease). IsKept items c.self.inside.last) (sym (with_items_is edited c.settle_up.new.live len))
-    (kept_set _ _ _ _ _ _ c.self.view_is c.self.invariant c.in_ok-place.ensures _ _ c.index_mut-kept.ensures.value c.saturating_add-deadline.ensures c.settle_up.new.live (omega (arith, c.saturating_add-deadline.ensures)) same c.settle_up.ensures.settled)
+    let items = c.self.inside.kept.items in
+    let new = c.set_deadline.new.kept in
+    let place = c.in_ok-place.place in
+    let time = c.saturating_add-deadline.result in
+    let len : length new ≡ c.self.inside.kept.len = omega (arith, c.set_deadline.auto.kept, c.deref_mut.ensures.len) in
+    let moves : Moves items place (Some time) new = subst (λ (kept : List KeptLease). Moves kept place (Some time) new) c.deref_mut.ensures.value c.set_deadline.ensures in
+    subst (λ (items : List KeptLease). IsKept items c.self.inside.last) (sym (with_items_is c.self.inside.kept new len)) (kept_move items new c.self.inside.last place (Some time) c.self.invariant moves)
 
 pub returns-clause-live : goal.returns-clause-live
-returns-clause-live c = sym (is_there _ _ _ _ _ _ c.self.view_is c.self.invariant c.in_ok-place.ensures)
+returns-clause-live c =
+    let items = c.self.inside.kept.items in
+    let new = c.set_deadline.new.kept in
+    let place = c.in_ok-place.place in
+    let time = c.saturating_add-deadline.result in
+    let moves : Moves items place (Some time) new = subst (λ (kept : List KeptLease). Moves kept place (Some time) new) c.deref_mut.ensures.value c.set_deadline.ensures in
+    let is_place : IsPlace (entries_of items) c.args.lease (Some place) = placed items c.deref.result.now c.self.inside.last c.args.lease (Some place) c.deref.ensures.value c.self.invariant.numbered c.in_ok-place.ensures in
+    sym (is_there items new c.self.inside.last place (Some time) c.self.invariant moves c.args.lease c.self.inside.clock is_place)
+    ∙ ap (λ (table : LeaseTable). is_live_lease table.live c.args.lease) c.self.view_is
 
 pub returns-clause-deadline : goal.returns-clause-deadline
 returns-clause-deadline c =
-    let edited = with_item c.self.inside.live c.in_ok-place.place (record { number = c.index_mut-kept.result.now.number; seconds = c.index_mut-kept.result.now.seconds; deadline = c.saturating_add-deadline.result; least = c.index_mut-kept.result.now.least }) in
-    let same = c.settle_up.ensures.leases ∙ ap leases_of c.deref_mut.ensures.value in
-    let len : length c.settle_up.new.live ≡ c.self.inside.live.len = omega (arith, c.settle_up.auto.live, c.deref_mut.ensures.len) in
-    ap (λ (live : List Lease). deadline_of c.args.lease (record { now = c.self.inside.clock; live = live; last = c.self.inside.last })) (ap leases_of (with_items_is edited c.settle_up.new.live len) ∙ same)
-    ∙ deadline_is _ _ _ _ _ _ c.self.view_is c.self.invariant c.in_ok-place.ensures _ _ c.index_mut-kept.ensures.value c.saturating_add-deadline.ensures
+    let items = c.self.inside.kept.items in
+    let new = c.set_deadline.new.kept in
+    let place = c.in_ok-place.place in
+    let time = c.saturating_add-deadline.result in
+    let len : length new ≡ c.self.inside.kept.len = omega (arith, c.set_deadline.auto.kept, c.deref_mut.ensures.len) in
+    let moves : Moves items place (Some time) new = subst (λ (kept : List KeptLease). Moves kept place (Some time) new) c.deref_mut.ensures.value c.set_deadline.ensures in
+    let is_place : IsPlace (entries_of items) c.args.lease (Some place) = placed items c.deref.result.now c.self.inside.last c.args.lease (Some place) c.deref.ensures.value c.self.invariant.numbered c.in_ok-place.ensures in
+    let entry = at_entry items place c.index.result.now nothing (omega (arith, is_place.0, Rattle.std.proofs.lemmas.List.length-map items Rattle.lease_clock.specs.Kept.entry_of)) in
+    let from_now = c.saturating_add-deadline.ensures ∙ ap (deadline_at c.self.inside.clock) (ap (λ (kept : KeptLease). kept.seconds) c.index.ensures ∙ sym (ap (λ (entry : Entry). entry.seconds) entry)) in
+    ap (λ (items : List KeptLease). deadline_of c.args.lease (table_of c.self.inside.clock c.self.inside.last (leases_of (entries_of items)))) (with_items_is c.self.inside.kept new len)
+    ∙ deadline_is items new c.self.inside.last place (Some time) c.self.invariant moves c.args.lease c.self.inside.clock is_place time refl from_now
 
 pub returns-clause-renewed : goal.returns-clause-renewed
 returns-clause-renewed c =
-    let edited = with_item c.self.inside.live c.in_ok-place.place (record { number = c.index_mut-kept.result.now.number; seconds = c.index_mut-kept.result.now.seconds; deadline = c.saturating_add-deadline.result; least = c.index_mut-kept.result.now.least }) in
-    let same = c.settle_up.ensures.leases ∙ ap leases_of c.deref_mut.ensures.value in
-    let len : length c.settle_up.new.live ≡ c.self.inside.live.len = omega (arith, c.settle_up.auto.live, c.deref_mut.ensures.len) in
-    ap (λ (live : List Lease). let table : LeaseTable = record { now = c.self.inside.clock; live = live; last = c.self.inside.last } in table) (ap leases_of (with_items_is edited c.settle_up.new.live len) ∙ same)
-    ∙ renews _ _ _ _ _ _ c.self.view_is c.self.invariant c.in_ok-place.ensures _ _ c.index_mut-kept.ensures.value c.saturating_add-deadline.ensures
+    let items = c.self.inside.kept.items in
+    let new = c.set_deadline.new.kept in
+    let place = c.in_ok-place.place in
+    let time = c.saturating_add-deadline.result in
+    let len : length new ≡ c.self.inside.kept.len = omega (arith, c.set_deadline.auto.kept, c.deref_mut.ensures.len) in
+    let moves : Moves items place (Some time) new = subst (λ (kept : List KeptLease). Moves kept place (Some time) new) c.deref_mut.ensures.value c.set_deadline.ensures in
+    let is_place : IsPlace (entries_of items) c.args.lease (Some place) = placed items c.deref.result.now c.self.inside.last c.args.lease (Some place) c.deref.ensures.value c.self.invariant.numbered c.in_ok-place.ensures in
+    let entry = at_entry items place c.index.result.now nothing (omega (arith, is_place.0, Rattle.std.proofs.lemmas.List.length-map items Rattle.lease_clock.specs.Kept.entry_of)) in
+    let from_now = c.saturating_add-deadline.ensures ∙ ap (deadline_at c.self.inside.clock) (ap (λ (kept : KeptLease). kept.seconds) c.index.ensures ∙ sym (ap (λ (entry : Entry). entry.seconds) entry)) in
+    ap (λ (items : List KeptLease). table_of c.self.inside.clock c.self.inside.last (leases_of (entries_of items))) (with_items_is c.self.inside.kept new len)
+    ∙ ap (table_of c.self.inside.clock c.self.inside.last) (renews items new c.self.inside.last place (Some time) c.self.invariant moves c.args.lease c.self.inside.clock is_place time refl from_now)
+    ∙ ap (renewed c.args.lease) c.self.view_is

@@ -1,7 +1,7 @@
 use Rattle.std.proofs.Common.{ℕ, ◌+◌, ap, length, map, refl, sym}
 use Rattle.indexmap.proofs.MapLemmas.{OnOk-map}
 use Rattle.scenario_lang.specs.declared.scenario.Action.TheVariants as action
-use Rattle.mesh_replay.specs.Actions.{Does, act, changes, compacted, export, keep, most, place_of, reported, restarted, start, tick_from, turn, write_raw}
+use Rattle.mesh_replay.specs.Actions.{changes, compacted, export, keep, most, place_of, reported, restarted, start, tick_from, turn, write_raw}
 use Rattle.mesh_replay.specs.World.{World}
 use Rattle.mesh_replay.proofs.Acts.{act_as}
 use Rattle.mesh_replay.proofs.replay.Replay.act.Goals as goal

@@ -1,4 +1,4 @@
-use Rattle.std.proofs.Common.{◌∙◌, List, arith, drop, get_or, length, map, refl, subst, sym}
+use Rattle.std.proofs.Common.{◌∙◌, List, arith, map, refl, subst}
 use Rattle.std.proofs.lemmas.List.{drop_all}
 use Rattle.scenario_lang.specs.declared.scenario.Action.{Action}
 use Rattle.mesh_replay.specs.Actions.{act_all}

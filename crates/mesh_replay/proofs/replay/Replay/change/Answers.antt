@@ -1,4 +1,4 @@
-use Rattle.std.proofs.Common.{◌≡◌, ℕ, List, OnOk, refl, subst, sym, true}
+use Rattle.std.proofs.Common.{◌≡◌, List, refl, subst, sym, true}
 use Rattle.indexmap.proofs.MapLemmas.{OnOk-map}
 use Rattle.exporter.specs.State.{after_stop}
 use Rattle.mesh_text.specs.declared.ip.Ip.{Ip}
@@ -14,7 +14,7 @@ use Rattle.mesh_replay.specs.World.{with_exporter, with_link}
 use Rattle.mesh_replay.specs.World as world
 use Rattle.mesh_replay.specs.declared.remote.Remote.{Remote}
 use Rattle.mesh_replay.specs.declared.replay.Replay.{Replay}
-use Rattle.mesh_replay.proofs.Changes.{changed, declare_keeps, link_keeps, with_remote, withdraw_keeps, KeepsName}
+use Rattle.mesh_replay.proofs.Changes.{changed, declare_keeps, link_keeps, with_remote, withdraw_keeps}
 use Rattle.mesh_replay.proofs.replay.Replay.change.Goals as goal
 
 -- what an action does that is this one

@@ -1,4 +1,4 @@
-use Rattle.std.proofs.Common.{◌≡◌, ◌≤◌, ℕ, refl, subst, sym}
+use Rattle.std.proofs.Common.{◌≤◌, ℕ, refl, subst, sym}
 use Rattle.mesh_replay.specs.Shown.{AreNew}
 use Rattle.mesh_replay.proofs.Beginnings.{has_first, some_seconds}
 use Rattle.mesh_replay.proofs.replay.Replay.new.Goals as goal

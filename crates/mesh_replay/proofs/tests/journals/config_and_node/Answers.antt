@@ -1,4 +1,4 @@
-use Rattle.std.proofs.Common.{◌≡◌, ◌++◌, ◌∷◌, [], List, length, ap, subst, sym, ◌∙◌, arith}
+use Rattle.std.proofs.Common.{◌≡◌, ◌++◌, ◌∷◌, [], List, ap, subst, sym, ◌∙◌, arith}
 use Rattle.store_api.specs.declared.change.Revision.{Revision}
 use Rattle.memory_store.specs.Journal.{IsJournal}
 use Rattle.memory_store.proofs.CallerLemmas.{journal_none, journal_put}

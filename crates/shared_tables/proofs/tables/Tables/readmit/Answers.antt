@@ -1,4 +1,4 @@
-use Rattle.std.proofs.Common.{◌≡◌, ℕ, List, map, refl, ap}
+use Rattle.std.proofs.Common.{List, refl, ap}
 use Rattle.shared_tables.specs.Told.{SourceTold, source_told}
 use Rattle.shared_tables.specs.declared.source.Source.{Source}
 use Rattle.shared_tables.proofs.Places.{map_changed, map_same, place_in}

@@ -1,4 +1,4 @@
-use Rattle.std.proofs.Common.{◌≡◌, ◌+◌, ℕ, List, map, ap, ◌∙◌}
+use Rattle.std.proofs.Common.{◌+◌, ℕ, List, ap, ◌∙◌}
 use Rattle.shared_tables.specs.Told.{SourceTold, rows_needed, source_told}
 use Rattle.shared_tables.specs.declared.source.Source.{Source}
 use Rattle.shared_tables.proofs.Places.{map_changed, map_same, on_err, place_in}
