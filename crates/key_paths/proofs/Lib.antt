@@ -8,4 +8,5 @@ pub mod Moves
 pub mod Ownership
 pub mod ReadAlike
 pub mod FrontLemmas
+pub mod Fronts
 pub mod CallerLemmas

@@ -2,7 +2,7 @@ use crate::hop::Hop;
 use mesh_text::{ClusterName, Ip, Kind, PartName};
 
 /// What a key of the mesh stands for (after Cilium's kvstore key formats).
-#[derive(Debug, Drop, PartialEq, Eq)]
+#[derive(Clone, Debug, Drop, PartialEq, Eq)]
 pub enum Key {
     /// The config of a cluster.
     Config {

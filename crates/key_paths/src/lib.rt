@@ -30,6 +30,6 @@ pub use laws::{
 };
 pub use mapping::{to_cache, to_state};
 pub use mesh_text::Kind;
-pub use paths::ranges;
+pub use paths::{is_record_key, ranges};
 pub use read::read_key;
 pub use write::write_key;

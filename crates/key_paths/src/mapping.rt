@@ -3,7 +3,7 @@ ghost use Rattle.std.specs.Prelude.{◌≡◌, IfOk, option_map};
 ghost use Rattle.key_paths.specs.Mapping.{cache_key_of, state_key_of, moved_among, moved};
 
 use crate::hop::Hop;
-use crate::paths::record_front;
+use crate::paths::{behind_record_front, record_front};
 use crate::words::KINDS;
 use mesh_base::Memory;
 use mesh_text::{ClusterName, Kind};
@@ -20,10 +20,9 @@ fn moved_among(
     ensures { IfOk result (λ o. option_map (λ v. v.items) o ≡ moved_among kinds.now from to cluster.now key.now) }
 {
     for kind in kinds {
-        let front = record_front(alloc, from, *kind, cluster)?;
-        if key.starts_with(front.as_slice()) {
+        if let Some(rest) = behind_record_front(key, from, *kind, cluster) {
             let mut moved = record_front(alloc, to, *kind, cluster)?;
-            moved.extend_from_slice(&key[front.len()..])?;
+            moved.extend_from_slice(rest)?;
             return Ok(Some(moved.into_vec()));
         }
     }

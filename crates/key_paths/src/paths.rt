@@ -1,7 +1,9 @@
 // What the keys of a cluster begin with, and the ranges that its readers follow.
-ghost use Rattle.std.specs.Prelude.{◌≡◌, ◌++◌, IfOk, OnOk, map};
+ghost use Rattle.std.specs.Prelude.{◌≡◌, ◌++◌, IfOk, OnOk, MatchOption, map, length, drop, nat_eq, true, false};
+ghost use Rattle.std.specs.List.{starts_with};
+ghost use Rattle.store_api.specs.History.{in_ranges};
 ghost use Rattle.key_paths.specs.Beginnings.{beginning};
-ghost use Rattle.key_paths.specs.Paths.{record_front, record_range, ranges_of};
+ghost use Rattle.key_paths.specs.Paths.{record_front, record_range, record_ranges, ranges_of};
 
 use crate::front::Front;
 use crate::hop::Hop;
@@ -39,6 +41,57 @@ pub(crate) fn record_front(
         (Hop::Cache, Kind::Identities) => behind(alloc, front, cluster, b"/id/"),
         _ => behind(alloc, front, cluster, b"/"),
     }
+}
+
+/// What follows the front, where the bytes begin with it.
+fn rest_of<'a>(bytes: &'a [u8], front: &[u8]) -> Option<&'a [u8]>
+    ensures { MatchOption result (starts_with nat_eq bytes.now (front.now) ≡ false) (λ rest. (starts_with nat_eq bytes.now (front.now) ≡ true) × (rest.now ≡ drop (length (front.now)) bytes.now)) }
+{
+    bytes.strip_prefix(front)
+}
+
+/// What follows a beginning, the cluster and the end, where the bytes begin with these.
+#[tactic(auto, using(crate::proofs::Fronts::starts_both, crate::proofs::Fronts::drop_both))]
+fn rest_behind<'a>(bytes: &'a [u8], front: Front, cluster: &[u8], end: &[u8]) -> Option<&'a [u8]>
+    ensures { MatchOption result (starts_with nat_eq bytes.now (beginning front ++ (cluster.now ++ end.now)) ≡ false) (λ rest. (starts_with nat_eq bytes.now (beginning front ++ (cluster.now ++ end.now)) ≡ true) × (rest.now ≡ drop (length (beginning front ++ (cluster.now ++ end.now))) bytes.now)) }
+{
+    let rest = rest_of(bytes, front.as_bytes())?;
+    let rest = rest_of(rest, cluster)?;
+    rest_of(rest, end)
+}
+
+/// What follows the front of the cluster's records of the kind, where the bytes begin with it.
+#[tactic(auto, unfolding(crate::specs::Paths::record_front))]
+pub(crate) fn behind_record_front<'a>(
+    bytes: &'a [u8],
+    hop: Hop,
+    kind: Kind,
+    cluster: &[u8],
+) -> Option<&'a [u8]>
+    ensures { MatchOption result (starts_with nat_eq bytes.now (record_front hop kind cluster.now) ≡ false) (λ rest. (starts_with nat_eq bytes.now (record_front hop kind cluster.now) ≡ true) × (rest.now ≡ drop (length (record_front hop kind cluster.now)) bytes.now)) }
+{
+    let front = Front::Records(hop, kind);
+    match (hop, kind) {
+        (Hop::State, Kind::Identities) | (Hop::State, Kind::Addresses) => {
+            rest_of(bytes, front.as_bytes())
+        }
+        (Hop::Cache, Kind::Identities) => rest_behind(bytes, front, cluster, b"/id/"),
+        _ => rest_behind(bytes, front, cluster, b"/"),
+    }
+}
+
+/// Whether the key is that of a record of the cluster, by what it begins with.
+///
+/// What follows the beginning may be anything. In an exporter's store every identity and address
+/// counts, since their keys do not say the cluster. Takes no memory.
+pub fn is_record_key(cluster: &ClusterName, hop: Hop, key: &[u8]) -> bool
+    ensures { result ≡ in_ranges (record_ranges cluster.now hop) key.now }
+{
+    let cluster = cluster.as_bytes();
+    behind_record_front(key, hop, Kind::Nodes, cluster).is_some()
+        || behind_record_front(key, hop, Kind::Services, cluster).is_some()
+        || behind_record_front(key, hop, Kind::Identities, cluster).is_some()
+        || behind_record_front(key, hop, Kind::Addresses, cluster).is_some()
 }
 
 fn push_record_ranges(

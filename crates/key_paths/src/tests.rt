@@ -1,4 +1,6 @@
-use crate::{Hop, Key, KeyFault, Kind, ranges, read_key, to_cache, to_state, write_key};
+use crate::{
+    Hop, Key, KeyFault, Kind, is_record_key, ranges, read_key, to_cache, to_state, write_key,
+};
 use mesh_text::{ClusterName, Ip, PartName};
 use std::alloc::Global;
 use std::process::Abort;
@@ -528,4 +530,50 @@ fn other_keys_are_not_moved(rt: HostRuntime) -> Result<(), Fail> {
             "cilium/cache/identities/v1/east/ip/65792",
         ],
     )
+}
+
+#[test]
+fn the_keys_of_records_are_told_by_their_beginning(rt: HostRuntime) -> Result<(), Fail> {
+    let east = cluster(rt.alloc(), "east")?;
+    for key in &[
+        "cilium/state/nodes/v1/east/n1",
+        "cilium/state/services/v1/east/default/web",
+        "cilium/state/identities/v1/id/65792",
+        "cilium/state/ip/v1/default/10.0.0.1",
+        "cilium/state/nodes/v1/east/",
+    ] {
+        assert!(rt; is_record_key(&east, Hop::State, key.as_bytes()));
+        assert!(rt; !is_record_key(&east, Hop::Cache, key.as_bytes()));
+    }
+    for key in &[
+        "cilium/cluster-config/east",
+        "cilium/synced/east/cilium/state/nodes/v1",
+        "cilium/state/nodes/v1/east2/n1",
+        "cilium/state/nodes/v1/east",
+    ] {
+        assert!(rt; !is_record_key(&east, Hop::State, key.as_bytes()));
+    }
+    assert!(rt;
+        is_record_key(
+            &east,
+            Hop::Cache,
+            b"cilium/cache/identities/v1/east/id/65792"
+        )
+    );
+    assert!(rt;
+        !is_record_key(
+            &east,
+            Hop::Cache,
+            b"cilium/cache/identities/v1/west/id/65792"
+        )
+    );
+    Ok(())
+}
+
+#[test]
+fn keys_are_copied(rt: HostRuntime) -> Result<(), Fail> {
+    let key = read_key(rt.alloc(), b"cilium/state/services/v1/east/default/web")?;
+    let copy = key.clone()?;
+    assert!(rt; copy == key);
+    Ok(())
 }

@@ -150,8 +150,9 @@ impl Leases {
         self.due_at(alloc, self.clock.saturating_add(seconds))
     }
 
-    /// Ends every lease that is due. Takes no memory. Costs the leases that end, each logarithmic in
-    /// the live ones: ended ones are dropped once they are more than half of all.
+    /// Ends every lease that is due. Takes no memory. Taken over all calls it costs the leases that
+    /// end, each logarithmic in the live ones: ended ones are dropped in one pass once they are more
+    /// than half of all.
     pub fn expire(&mut self)
         ensures { self.new ≡ expired self.old }
     {
@@ -162,7 +163,7 @@ impl Leases {
 
     /// Ends the lease, and answers whether it was live (etcd: LeaseRevoke).
     ///
-    /// Takes no memory, and costs as one lease that lapses.
+    /// Takes no memory, and costs as one lease that lapses, taken over all calls.
     pub fn revoke(&mut self, lease: u64) -> bool
         ensures live { result ≡ is_live_lease self.old.live lease }
         ensures revoked { self.new ≡ revoked lease self.old }

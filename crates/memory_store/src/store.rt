@@ -200,8 +200,9 @@ impl MemoryStore {
     /// `tick` by this writer.
     ///
     /// Takes no memory where no lease is due, and is constant then. Where leases lapse it costs their
-    /// keys, each logarithmic in the live ones, and these leases, each logarithmic in the live ones. A
-    /// store at its last revision answers `Memory` to a tick that makes one.
+    /// keys, each logarithmic in the live ones, and, taken over all ticks, these leases, each
+    /// logarithmic in the live ones. A store at its last revision answers `Memory` to a tick that
+    /// makes one.
     pub fn tick_as(&mut self, alloc: Global, writer: u32, seconds: u64) -> Result<u64, StoreFault>
         ensures log { OnOk result (self.new.log ≡ self.old.log ++ Ticked writer seconds ∷ []) }
         ensures contents { OnOk result (contents_of self.new.log ≡ after_tick seconds (contents_of self.old.log)) }

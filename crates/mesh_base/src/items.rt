@@ -68,3 +68,13 @@ impl<T: Drop> Items<T> {
         Ok(())
     }
 }
+
+/// A copy is exact where copies of the items are.
+impl<T: Clone> Clone for Items<T> {
+    ghost is_clone = { λ a b. ((x y : T) → T.is_clone x y → y ≡ x) → b ≡ a };
+
+    fn clone(&self) -> Result<Items<T>, AllocError> {
+        let items = self.items.clone()?;
+        Ok(Items { items })
+    }
+}

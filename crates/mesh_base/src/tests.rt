@@ -15,6 +15,19 @@ fn bytes_grow_and_compare_in_byte_order(rt: HostRuntime) -> Result<(), Fail> {
 }
 
 #[test]
+fn items_are_copied_with_what_they_hold(rt: HostRuntime) -> Result<(), Fail> {
+    let mut keys = Items::new(rt.alloc());
+    keys.push(Bytes::from_slice(rt.alloc(), b"east")?)?;
+    keys.push(Bytes::from_slice(rt.alloc(), b"west")?)?;
+    let copy = keys.clone()?;
+    keys.push(Bytes::from_slice(rt.alloc(), b"north")?)?;
+    assert_eq!(rt; copy.len(), 2);
+    assert_eq!(rt; copy.as_slice()[0].as_slice(), b"east".as_slice());
+    assert_eq!(rt; copy.as_slice()[1].as_slice(), b"west".as_slice());
+    Ok(())
+}
+
+#[test]
 fn items_keep_their_order(rt: HostRuntime) -> Result<(), Fail> {
     let mut numbers = Items::new(rt.alloc());
     numbers.push(3u64)?;

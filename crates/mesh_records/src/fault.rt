@@ -9,7 +9,7 @@ use std::alloc::{AllocError, AllocFailed, Global};
 ///
 /// A `field` is the member's name, with the name of the list or object that it stands in before
 /// it, as `IPAddresses.Type`.
-#[derive(Debug, Drop)]
+#[derive(Clone, Debug, Drop)]
 pub enum ReadFault {
     /// The bytes are no JSON text.
     Json,

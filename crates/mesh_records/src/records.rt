@@ -49,7 +49,7 @@ impl ClusterConfig {
 }
 
 /// A node of a cluster.
-#[derive(Debug, Drop)]
+#[derive(Clone, Debug, Drop)]
 pub struct Node {
     pub name: Text,
     pub cluster: Text,
@@ -60,7 +60,7 @@ pub struct Node {
 }
 
 /// An address of the mesh.
-#[derive(Debug, Drop)]
+#[derive(Clone, Debug, Drop)]
 pub struct AddressRecord {
     pub ip: Ip,
     /// The address of the host that it is on.
@@ -108,7 +108,7 @@ impl AddressRecord {
 }
 
 /// A label of an identity, as `k8s:app=web;`.
-#[derive(Debug, Drop)]
+#[derive(Clone, Debug, Drop)]
 pub struct Label {
     /// One or more bytes without `:`, `=` and `;`.
     pub source: Bytes,
@@ -141,13 +141,13 @@ impl Label {
 }
 
 /// The labels of an identity, in the order of the value.
-#[derive(Debug, Drop)]
+#[derive(Clone, Debug, Drop)]
 pub struct IdentityRecord {
     pub labels: Items<Label>,
 }
 
 /// A port of an address that a cluster offers for a service.
-#[derive(Debug, Drop)]
+#[derive(Clone, Debug, Drop)]
 pub struct Backend {
     pub ip: Ip,
     pub port: u16,
@@ -188,7 +188,7 @@ impl Backend {
 }
 
 /// A service, with the backends that its cluster offers for it.
-#[derive(Debug, Drop)]
+#[derive(Clone, Debug, Drop)]
 pub struct ServiceRecord {
     pub cluster: Text,
     pub namespace: Text,
@@ -239,7 +239,7 @@ impl ServiceRecord {
 }
 
 /// A record of one of the four kinds.
-#[derive(Debug, Drop)]
+#[derive(Clone, Debug, Drop)]
 pub enum Record {
     Node(Node),
     Service(ServiceRecord),

@@ -4,7 +4,7 @@ use mesh_records::ReadFault;
 /// What is wrong with a pair, in the order in which the faults are looked for.
 ///
 /// `Key` and `Read` hold the named faults of the two readers and never want of memory.
-#[derive(Debug, Drop)]
+#[derive(Clone, Debug, Drop)]
 pub enum Fault {
     /// The key is none of a record.
     Key(KeyFault),

@@ -9,3 +9,4 @@ mod Places
 mod Viewing
 mod ReadLists
 mod RowLists
+mod RecordReadings

@@ -1,5 +1,5 @@
 -- What a pair in a cluster's ranges says.
-use Rattle.std.specs.Prelude.{ℕ, List, codes, nat_eq, if◌then◌else◌, Option, None, Some, Result, Ok, Err}
+use Rattle.std.specs.Prelude.{◌≡◌, ℕ, List, codes, nat_eq, if◌then◌else◌, Option, None, Some, Result, Ok, Err}
 use Rattle.std.specs.List.{starts_with}
 use Rattle.mesh_text.specs.Numbers.{number_of}
 use Rattle.mesh_records.specs.declared.records.ClusterConfig.{ClusterConfig}
@@ -18,6 +18,10 @@ use Rattle.relist_merge.specs.declared.reading.Reading.TheVariants as reading
 abbrev pub of_record : Result (Key × Record) Fault → Reading
 of_record (Ok (key, value)) = reading.Pair key value
 of_record (Err fault) = reading.Bad fault
+
+-- the reading is that of a record's pair
+abbrev pub SaysRecord : Reading → Type 0
+SaysRecord r = (said : Result (Key × Record) Fault) × (r ≡ of_record said)
 
 -- a pair that is no config, mark or cut: below the marks it says nothing, and else it is a record's
 abbrev pub below_marks : List ℕ → List ℕ → Reading

@@ -54,6 +54,10 @@ pub record AreKeysOf (s : Source) (keys : SyncKeys) : Type 0 where
 abbrev pub AreRead : Limit → List (List ℕ × Row) → Type 0
 AreRead limit rows = (k : List ℕ) → ForSome (lookup (pointwise nat_eq k) rows) (λ row. row.reading ≡ reading_in limit k row.value)
 
+-- the row's reading is what its pair says
+abbrev pub IsRowRead : Limit → List ℕ × Row → Type 0
+IsRowRead limit e = e.1.reading ≡ reading_in limit e.0 e.1.value
+
 -- what holds of the fields of every view: without the keys there is no row and no room for one, with
 -- them they are the source's, and each row's reading is what its pair says
 pub record IsKept (s : Source) (keys : Option SyncKeys) (room : ℕ) (rows : List (List ℕ × Row)) : Type 0 where

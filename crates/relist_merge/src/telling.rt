@@ -1,15 +1,21 @@
-// What is told of pairs to those who report a source's records.
-ghost use Rattle.std.specs.Prelude.{◌≡◌, ◌++◌, IfOk, OnOk, flat_map, map};
-ghost use Rattle.store_api.specs.History.{entry_of};
+// What is told of rows to those who report a source's records.
+ghost use Rattle.std.specs.Prelude.{◌≡◌, ◌++◌, List, IfOk, OnOk, flat_map, map};
+ghost use Rattle.std.specs.List.{AllByRecursion};
+ghost use Rattle.record_check.specs.declared.limit.Limit.{Limit};
+ghost use Rattle.relist_merge.specs.Readings.{SaysRecord, of_record};
+ghost use Rattle.relist_merge.specs.Shown.{pair_of};
 ghost use Rattle.relist_merge.specs.Told.{record_key, told_of};
+ghost use Rattle.relist_merge.specs.Viewed.{IsRowRead};
 
-use key_paths::{Hop, Key, maps_record_ranges, to_cache, to_state};
+use crate::reading::Reading;
+use crate::rows::Row;
+use indexmap::IndexMap;
+use key_paths::{Hop, Key, is_record_key, to_state};
 use mesh_base::{Bytes, Items, Memory};
 use mesh_records::Record;
 use mesh_text::ClusterName;
-use record_check::{Fault, read_pair};
+use record_check::Fault;
 use std::alloc::Global;
-use store_api::Pair;
 
 /// A pair of a record, as it was read.
 #[derive(Debug, Drop)]
@@ -29,16 +35,42 @@ fn record_key(
 ) -> Result<Option<Bytes>, Memory>
     ensures { IfOk result (λ found. found ≡ record_key hop cluster.now key.now) }
 {
-    maps_record_ranges();
     match hop {
-        Hop::State => match to_cache(alloc, cluster, key.as_slice())? {
-            Some(_) => Ok(Some(key.clone()?)),
-            None => Ok(None),
-        },
+        Hop::State => {
+            if is_record_key(cluster, Hop::State, key.as_slice()) {
+                Ok(Some(key.clone()?))
+            } else {
+                Ok(None)
+            }
+        }
         Hop::Cache => match to_state(alloc, cluster, key.as_slice())? {
             Some(key) => Ok(Some(Bytes::from_vec(key))),
             None => Ok(None),
         },
+    }
+}
+
+fn copy_key(key: &Key) -> Result<Key, Memory>
+    ensures { IfOk result (λ copy. copy ≡ key.now) }
+{
+    Ok(key.clone()?)
+}
+
+fn copy_record(value: &Record) -> Result<Record, Memory>
+    ensures { IfOk result (λ copy. copy ≡ value.now) }
+{
+    Ok(value.clone()?)
+}
+
+// A copy of what a record's pair says.
+fn copy_said(reading: &Reading) -> Result<Result<(Key, Record), Fault>, Memory>
+    requires { SaysRecord reading.now }
+    ensures { IfOk result (λ said. of_record said ≡ reading.now) }
+{
+    match reading {
+        Reading::Pair { key, value } => Ok(Ok((copy_key(key)?, copy_record(value)?))),
+        Reading::Bad(fault) => Ok(Err(fault.clone()?)),
+        _ => unreachable!(),
     }
 }
 
@@ -47,30 +79,33 @@ fn push_record(
     records: &mut Items<ReadRecord>,
     hop: Hop,
     cluster: &ClusterName,
-    pair: &Pair,
+    key: &Bytes,
+    row: &Row,
 ) -> Result<(), Memory>
-    ensures { OnOk result (records.new ≡ records.old ++ told_of hop cluster.now (entry_of pair.now)) }
+    requires { (limit : Limit) × IsRowRead limit (key.now, row.now) }
+    ensures { OnOk result (records.new ≡ records.old ++ told_of hop cluster.now (pair_of (key.now, row.now))) }
 {
-    let Some(key) = record_key(alloc, hop, cluster, &pair.key)? else {
+    let Some(key) = record_key(alloc, hop, cluster, key)? else {
         return Ok(());
     };
-    let reading = read_pair(alloc, pair.key.as_slice(), pair.value.as_slice())?;
+    let reading = copy_said(&row.reading)?;
     records.push(ReadRecord { key, reading })?;
     Ok(())
 }
 
-/// The records among the pairs, in their order.
+/// The records among the rows, in their order, as they were read.
 pub(crate) fn records_of(
     alloc: Global,
     hop: Hop,
     cluster: &ClusterName,
-    pairs: Items<Pair>,
+    rows: &IndexMap<Bytes, Row>,
 ) -> Result<Items<ReadRecord>, Memory>
-    ensures { IfOk result (λ records. records ≡ flat_map (told_of hop cluster.now) (map entry_of pairs)) }
+    requires { (limit : Limit) × AllByRecursion (IsRowRead limit) rows.now.entries }
+    ensures { IfOk result (λ records. records ≡ flat_map (told_of hop cluster.now) (map pair_of rows.now.entries)) }
 {
     let mut records = Items::new(alloc);
-    for pair in pairs.into_vec() {
-        push_record(alloc, &mut records, hop, cluster, &pair)?;
+    for (key, row) in rows {
+        push_record(alloc, &mut records, hop, cluster, key, row)?;
     }
     Ok(records)
 }

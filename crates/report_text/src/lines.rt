@@ -1,8 +1,28 @@
 // Words in lines, and lines in byte order.
-ghost use Rattle.std.specs.Prelude.{◌≡◌, ◌++◌, List, ℕ, OnOk, codes, flat_map};
+ghost use Rattle.std.specs.Prelude.{◌≡◌, ◌++◌, [], List, ℕ, IfOk, OnOk, codes, flat_map};
 ghost use Rattle.report_text.specs.Lines.{text_of_lines};
 
 use mesh_base::{Bytes, Memory};
+use std::alloc::Global;
+
+/// A line of so many bytes takes memory once; a longer one takes more.
+const LINE: usize = 64;
+
+/// An empty line, with memory for a usual one.
+pub(crate) fn empty_line(alloc: Global) -> Result<Bytes, Memory>
+    ensures { IfOk result (λ line. line ≡ []) }
+{
+    Ok(Bytes::from_vec(Vec::with_capacity(alloc, LINE)?))
+}
+
+/// A line that begins with this word.
+pub(crate) fn line_of(alloc: Global, word: &str) -> Result<Bytes, Memory>
+    ensures { IfOk result (λ line. line ≡ word.now) }
+{
+    let mut line = empty_line(alloc)?;
+    line.extend_from_slice(word.as_bytes())?;
+    Ok(line)
+}
 
 /// Puts a space and the word behind the line.
 pub(crate) fn push_word(line: &mut Bytes, word: &[u8]) -> Result<(), Memory>

@@ -4,7 +4,7 @@ ghost use Rattle.report_text.specs.Lines.{rest_of_line};
 ghost use Rattle.report_text.specs.Text as text;
 ghost use Rattle.report_text.specs.Words.{revision_words, typed_address};
 
-use crate::lines::push_word;
+use crate::lines::{line_of, push_word};
 use crate::words::{
     address_or_none, backend_word, hop_word, labels_word, text_or_none, typed_address, why_word,
 };
@@ -27,7 +27,7 @@ fn push_revision(alloc: Global, line: &mut Bytes, held: bool, revision: u64) -> 
 pub(crate) fn source_line(alloc: Global, row: &SourceRow) -> Result<Bytes, Memory>
     ensures { IfOk result (λ line. line ≡ text.source_line row.now) }
 {
-    let mut line = Bytes::from_slice(alloc, "source".as_bytes())?;
+    let mut line = line_of(alloc, "source")?;
     push_word(&mut line, row.cluster.as_bytes())?;
     push_word(&mut line, hop_word(row.hop).as_bytes())?;
     push_revision(alloc, &mut line, row.held, row.revision)?;
@@ -47,7 +47,7 @@ fn push_addresses(alloc: Global, line: &mut Bytes, addresses: &[(Text, Ip)]) -> 
 pub(crate) fn node_line(alloc: Global, row: &NodeRow) -> Result<Bytes, Memory>
     ensures { IfOk result (λ line. line ≡ text.node_line row.now) }
 {
-    let mut line = Bytes::from_slice(alloc, "node".as_bytes())?;
+    let mut line = line_of(alloc, "node")?;
     push_word(&mut line, row.cluster.as_bytes())?;
     push_word(&mut line, row.name.as_bytes())?;
     push_addresses(alloc, &mut line, row.addresses.as_slice())?;
@@ -57,7 +57,7 @@ pub(crate) fn node_line(alloc: Global, row: &NodeRow) -> Result<Bytes, Memory>
 pub(crate) fn identity_line(alloc: Global, row: &IdentityRow) -> Result<Bytes, Memory>
     ensures { IfOk result (λ line. line ≡ text.identity_line row.now) }
 {
-    let mut line = Bytes::from_slice(alloc, "identity".as_bytes())?;
+    let mut line = line_of(alloc, "identity")?;
     push_word(&mut line, row.cluster.as_bytes())?;
     push_word(&mut line, row.number.to_string(alloc)?.as_bytes())?;
     push_word(
@@ -71,7 +71,7 @@ pub(crate) fn identity_line(alloc: Global, row: &IdentityRow) -> Result<Bytes, M
 pub(crate) fn address_line(alloc: Global, row: &AddressRow) -> Result<Bytes, Memory>
     ensures { IfOk result (λ line. line ≡ text.address_line row.now) }
 {
-    let mut line = Bytes::from_slice(alloc, "address".as_bytes())?;
+    let mut line = line_of(alloc, "address")?;
     push_word(&mut line, write_ip(alloc, row.ip)?.as_slice())?;
     push_word(&mut line, row.cluster.as_bytes())?;
     push_word(&mut line, row.identity.to_string(alloc)?.as_bytes())?;
@@ -85,7 +85,7 @@ pub(crate) fn address_line(alloc: Global, row: &AddressRow) -> Result<Bytes, Mem
 fn offer_line(alloc: Global, kind: &str, row: &BackendRow) -> Result<Bytes, Memory>
     ensures { IfOk result (λ line. line ≡ text.offer_line kind.now row.now) }
 {
-    let mut line = Bytes::from_slice(alloc, kind.as_bytes())?;
+    let mut line = line_of(alloc, kind)?;
     push_word(&mut line, row.namespace.as_bytes())?;
     push_word(&mut line, row.name.as_bytes())?;
     push_word(&mut line, row.cluster.as_bytes())?;
@@ -109,7 +109,7 @@ pub(crate) fn chosen_line(alloc: Global, row: &BackendRow) -> Result<Bytes, Memo
 pub(crate) fn reject_line(alloc: Global, row: &RejectRow) -> Result<Bytes, Memory>
     ensures { IfOk result (λ line. line ≡ text.reject_line row.now) }
 {
-    let mut line = Bytes::from_slice(alloc, "reject".as_bytes())?;
+    let mut line = line_of(alloc, "reject")?;
     push_word(&mut line, row.cluster.as_bytes())?;
     push_word(&mut line, escape(alloc, row.key.as_slice())?.as_slice())?;
     push_word(&mut line, why_word(&row.why).as_bytes())?;

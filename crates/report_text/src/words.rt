@@ -4,6 +4,7 @@ ghost use Rattle.mesh_records.specs.Labels.{label_text};
 ghost use Rattle.report_text.specs.Words as words;
 
 use crate::head::Head;
+use crate::lines::empty_line;
 use key_paths::{Hop, KeyFault};
 use mesh_base::{Bytes, Memory};
 use mesh_records::{Backend, Label, ReadFault};
@@ -54,7 +55,7 @@ fn push_label(text: &mut Bytes, label: &Label) -> Result<(), Memory>
 fn labels_text(alloc: Global, labels: &[Label]) -> Result<Bytes, Memory>
     ensures { IfOk result (λ text. text ≡ flat_map label_text labels.now) }
 {
-    let mut text = Bytes::new(alloc);
+    let mut text = empty_line(alloc)?;
     for label in labels {
         push_label(&mut text, label)?;
     }

@@ -18,7 +18,7 @@ use Rattle.shared_tables.specs.declared.source.Source.{Source}
 use Rattle.shared_tables.specs.declared.standing.Standing.{Standing}
 use Rattle.shared_tables.specs.declared.standing.Standing.TheVariants.{NoConfig, Refused, Admitted}
 use Rattle.shared_tables.specs.Admission.{has_number, is_taken, standing_of}
-use Rattle.shared_tables.specs.Merge.{Claim, IsMerge, address_rows, backend_rows, claim, claims, identity_row, identity_rows, is_before, is_least, least_claims, node_row, node_rows, pair_reject, part, parts, reject_rows, rejects, service_rows, standing, valid_of}
+use Rattle.shared_tables.specs.Merge.{Claim, IsMerge, address_rows, backend_rows, claim, identity_row, identity_rows, is_before, is_least, least_claims, node_row, node_rows, pair_reject, part, parts, reject_rows, rejects, service_rows, standing, valid_of}
 use Rattle.shared_tables.specs.Least.{TellsOf, has_lesser}
 use Rattle.shared_tables.specs.Merged.{arrived, nothing_merged, with_rows}
 use Rattle.shared_tables.specs.RecordSets.{ConfigSaid, Reading, RecordSet}

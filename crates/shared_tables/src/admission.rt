@@ -3,7 +3,6 @@ ghost use Rattle.std.specs.Prelude.{◌≡◌, map, IfOk};
 ghost use Rattle.shared_tables.specs.Admission as rules;
 ghost use Rattle.shared_tables.specs.Merged.{arrived};
 
-use crate::copies::copy_fault;
 use crate::rows::Why;
 use crate::source::Source;
 use crate::standing::Standing;
@@ -45,7 +44,7 @@ pub(crate) fn standing(
 {
     match config {
         None => Ok(Standing::NoConfig),
-        Some(Err(fault)) => Ok(Standing::Refused(Why::Fault(copy_fault(fault)?))),
+        Some(Err(fault)) => Ok(Standing::Refused(Why::Fault(fault.clone()?))),
         Some(Ok(config)) => {
             if config.id == local {
                 Ok(Standing::Refused(Why::IdLocal))

@@ -5,13 +5,12 @@
 //! `telling` and `reporting` what was told of all. `standing` and `admission` say how a source
 //! stands among all, `walks` goes over the pairs of all sources, and `merging` makes the rows of a
 //! valid record, which `merged` holds. `least` finds the row of an address that several sources
-//! have, `copies` copies what is shown, and `laws` says that order means nothing.
+//! have, and `laws` says that order means nothing.
 //! It knows nothing of stores, readers or texts.
 #![tactic(auto)]
 
 mod admission;
 mod change;
-mod copies;
 mod laws;
 mod least;
 mod merged;

@@ -4,17 +4,14 @@ ghost use Rattle.mesh_records.specs.declared.records.Record.TheVariants as recor
 ghost use Rattle.shared_tables.specs.Merge as merge;
 ghost use Rattle.shared_tables.specs.Merged.{arrived, with_rows, with_entry};
 
-use crate::copies::{copy_addresses, copy_backend, copy_labels, copy_text};
 use crate::merged::{Claim, Merged};
 use crate::rows::{AddressRow, BackendRow, IdentityRow, NodeRow};
 use key_paths::Key;
 use mesh_base::{Items, Memory};
 use mesh_records::{AddressRecord, Backend, IdentityRecord, Node, Record, ServiceRecord};
 use mesh_text::{ClusterName, PartName};
-use std::alloc::Global;
 
 fn push_node(
-    alloc: Global,
     rows: &mut Items<NodeRow>,
     cluster: &ClusterName,
     key: &Key,
@@ -27,7 +24,7 @@ fn push_node(
             rows.push(NodeRow {
                 cluster: cluster.clone()?,
                 name: name.clone()?,
-                addresses: copy_addresses(alloc, node.addresses.as_slice())?,
+                addresses: node.addresses.clone()?,
             })?;
         }
         _ => {}
@@ -36,7 +33,6 @@ fn push_node(
 }
 
 fn push_identity(
-    alloc: Global,
     rows: &mut Items<IdentityRow>,
     cluster: &ClusterName,
     key: &Key,
@@ -49,7 +45,7 @@ fn push_identity(
             rows.push(IdentityRow {
                 cluster: cluster.clone()?,
                 number: *number,
-                labels: copy_labels(alloc, identity.labels.as_slice())?,
+                labels: identity.labels.clone()?,
             })?;
         }
         _ => {}
@@ -70,8 +66,8 @@ fn push_claim(
         cluster: cluster.clone()?,
         identity: address.id,
         host: address.host,
-        namespace: copy_text(&address.namespace)?,
-        pod: copy_text(&address.pod)?,
+        namespace: address.namespace.clone()?,
+        pod: address.pod.clone()?,
     };
     claims.push((number, row))?;
     Ok(())
@@ -91,7 +87,7 @@ fn push_backends(
             namespace: namespace.clone()?,
             name: name.clone()?,
             cluster: cluster.clone()?,
-            backend: copy_backend(backend)?,
+            backend: backend.clone()?,
         })?;
     }
     Ok(())
@@ -122,7 +118,6 @@ fn push_service(
 
 /// The rows of a valid record.
 pub(crate) fn push_valid(
-    alloc: Global,
     merged: &mut Merged,
     cluster: &ClusterName,
     number: u32,
@@ -132,10 +127,10 @@ pub(crate) fn push_valid(
     ensures { OnOk result (merged.new ≡ with_entry merged.old (record { cluster = cluster.now; number = number; key = key.now; value = value.now })) }
 {
     match value {
-        Record::Node(node) => push_node(alloc, &mut merged.nodes, cluster, key, node),
+        Record::Node(node) => push_node(&mut merged.nodes, cluster, key, node),
         Record::Service(service) => push_service(&mut merged.backends, cluster, key, service),
         Record::Identity(identity) => {
-            push_identity(alloc, &mut merged.identities, cluster, key, identity)
+            push_identity(&mut merged.identities, cluster, key, identity)
         }
         Record::Address(address) => push_claim(&mut merged.claims, cluster, number, address),
     }

@@ -8,7 +8,6 @@ ghost use Rattle.shared_tables.specs.Merged.{arrived, nothing_merged, with_rows}
 
 use crate::admission::standing;
 use crate::change::Reading;
-use crate::copies::copy_fault;
 use crate::merged::Merged;
 use crate::merging::push_valid;
 use crate::rows::{RejectRow, Why};
@@ -50,7 +49,6 @@ fn push_reject(
 /// The rows of a pair of an admitted source.
 #[tactic(auto, using(crate::proofs::Gathered::rows_valid, crate::proofs::Fits::kind_from_fit))]
 fn push_pair(
-    alloc: Global,
     merged: &mut Merged,
     limit: Limit,
     cluster: &ClusterName,
@@ -62,21 +60,15 @@ fn push_pair(
     ensures { OnOk result (merged.new ≡ with_rows merged.old (valid_of limit cluster.now number reading.now) (pair_reject limit cluster.now number (key.now, reading.now))) }
 {
     match reading {
-        Err(fault) => push_reject(
-            merged,
-            cluster,
-            key.clone()?,
-            Why::Fault(copy_fault(fault)?),
-        ),
+        Err(fault) => push_reject(merged, cluster, key.clone()?, Why::Fault(fault.clone()?)),
         Ok((read, value)) => match judge(cluster, number, limit, read, value) {
             Some(fault) => push_reject(merged, cluster, key.clone()?, Why::Fault(fault)),
-            None => push_valid(alloc, merged, cluster, number, read, value),
+            None => push_valid(merged, cluster, number, read, value),
         },
     }
 }
 
 fn push_pairs<L: Ledger>(
-    alloc: Global,
     merged: &mut Merged,
     limit: Limit,
     cluster: &ClusterName,
@@ -89,7 +81,7 @@ fn push_pairs<L: Ledger>(
 {
     for (key, reading) in rows {
         steps.tick();
-        push_pair(alloc, merged, limit, cluster, number, key, reading)?;
+        push_pair(merged, limit, cluster, number, key, reading)?;
     }
     Ok(())
 }
@@ -112,7 +104,6 @@ fn push_source<L: Ledger>(
             push_reject(merged, &source.name, config_key(alloc, &source.name)?, why)
         }
         Standing::Admitted(number) => push_pairs(
-            alloc,
             merged,
             limit,
             &source.name,

@@ -7,7 +7,7 @@ ghost use Rattle.relist_merge.specs.Told.{cut_in, told_of};
 ghost use Rattle.relist_merge.specs.View.{IsListOf, values};
 
 use crate::reading::cut_said;
-use crate::telling::{ReadRecord, records_of};
+use crate::telling::ReadRecord;
 use crate::view::View;
 use mesh_base::{Items, Memory};
 use mesh_records::ClusterConfig;
@@ -28,12 +28,11 @@ impl View {
     /// The key in the exporter's store and the reading of each entry that is a record's, in any
     /// order.
     ///
-    /// `Memory` comes where memory was wanted. Linear in the entries, which are read anew.
+    /// `Memory` comes where memory was wanted. Linear in the entries, of which none is read anew.
     pub fn read_records(&self, alloc: Global) -> Result<Items<ReadRecord>, Memory>
         ensures { IfOk result (λ records. (pairs : List (List ℕ × List ℕ)) × IsListOf pairs (values (viewed self.now).shown.entries) × (records ≡ flat_map (told_of (viewed self.now).source.hop (viewed self.now).source.cluster) pairs)) }
     {
-        let pairs = self.pairs(alloc)?;
-        records_of(alloc, self.hop, &self.cluster, pairs)
+        self.rows.records(alloc, self.hop, &self.cluster)
     }
 
     /// What the entry of the source's config says, or its first fault; `None` exactly where there is
