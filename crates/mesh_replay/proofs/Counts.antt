@@ -1,7 +1,7 @@
 -- An action leaves as many remotes as there are.
 use Rattle.std.proofs.Common.{◌≡◌, ℕ, zero, suc, ◌+◌, List, [], ◌∷◌, ◌++◌, length, drop, Option, None, Some, refl, ap, sym, ◌∙◌}
 use Rattle.std.proofs.lemmas.List.{length-map, length-set}
-use Rattle.flaky_link.specs.Link.{fate, failed, passed, Link}
+use Rattle.flaky_link.specs.Link.{fate, failed, passed}
 use Rattle.flaky_link.specs.declared.state.Fate.{Fate}
 use Rattle.flaky_link.specs.declared.state.Fate.TheVariants.{Passes, FailsBefore, FailsAfter}
 use Rattle.exporter.specs.State.{after_stop, next_ops, turns}

@@ -17,6 +17,7 @@ pub mod Reported
 pub mod Runs
 pub mod SetsTold
 pub mod SightedPairs
+pub mod Sightings
 pub mod SourcesTold
 pub mod StreamLemmas
 pub mod TooLong

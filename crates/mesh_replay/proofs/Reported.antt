@@ -13,7 +13,6 @@ use Rattle.report_text.specs.declared.head.Head.TheVariants as head
 use Rattle.shared_tables.specs.Merge.{IsMerge}
 use Rattle.shared_tables.specs.RecordSets.{RecordSet}
 use Rattle.shared_tables.specs.Rows.{SameRows}
-use Rattle.shared_tables.specs.Told.{Told, sets}
 use Rattle.shared_tables.specs.declared.rows.Report.{Report}
 use Rattle.shared_tables.specs.declared.rows.SourceRow.{SourceRow}
 use Rattle.shared_tables.proofs.CallerLemmas.{SameRows-refl}
@@ -26,6 +25,7 @@ use Rattle.mesh_replay.specs.World.{World}
 use Rattle.mesh_replay.specs.World as world
 use Rattle.mesh_replay.specs.declared.remote.Remote.{Remote}
 use Rattle.mesh_replay.specs.declared.replay.Replay.{Replay}
+use Rattle.mesh_replay.specs.declared.sighting.Sighting.{Sighting}
 
 -- ---- how far a remote was followed
 abbrev pub IsRowOf : Remote → SourceRow → Type 0
@@ -66,20 +66,18 @@ all_rows (r ∷ remotes) (row ∷ rows) [] (w ∷ ws) many are shown = absurd sh
 all_rows (r ∷ remotes) (row ∷ rows) (c ∷ stores) [] many are shown = absurd shown
 
 -- ---- the report of tables that were told so
-merge_as : (limit : Limit) (local number : ℕ) (told_sets shown : List RecordSet) (report : Report) → IsMerge limit local told_sets report → limit ≡ Small → local ≡ number → told_sets ≡ shown → IsMerge Small number shown report
+pub merge_as : (limit : Limit) (local number : ℕ) (told_sets shown : List RecordSet) (report : Report) → IsMerge limit local told_sets report → limit ≡ Small → local ≡ number → told_sets ≡ shown → IsMerge Small number shown report
 merge_as limit local number told_sets shown report is small same sets_are =
     subst (λ (s : List RecordSet). IsMerge Small number s report) sets_are
     (subst (λ (n : ℕ). IsMerge Small n told_sets report) same
     (subst (λ (l : Limit). IsMerge l local told_sets report) small is))
 
-pub report_told : (t : Told) (number : ℕ) (shown : List RecordSet) (followed rows : List SourceRow) (report : Report) → IsMerge t.limit t.number (sets t) report → t.number ≡ number → t.limit ≡ Small → sets t ≡ shown → rows ≡ followed
+pub report_told : (number : ℕ) (shown : List RecordSet) (followed rows : List SourceRow) (report : Report) → IsMerge Small number shown report → rows ≡ followed
     → IsReportOf number followed shown (record report { sources = rows })
-report_told t number shown followed rows report is same small sets_are rows_are =
-    let merge = merge_as t.limit t.number number (sets t) shown report is small same sets_are in
-    record {
-      sources = rows_are;
-      rows = record { sources = refl; nodes = merge.nodes; identities = merge.identities; addresses = merge.addresses; backends = merge.backends; chosen = merge.chosen; rejects = merge.rejects };
-    }
+report_told number shown followed rows report merge rows_are = record {
+  sources = rows_are;
+  rows = record { sources = refl; nodes = merge.nodes; identities = merge.identities; addresses = merge.addresses; backends = merge.backends; chosen = merge.chosen; rejects = merge.rejects };
+}
 
 -- ---- its text
 same_if : {X : Type 0} (xs ys : List X) → xs ≡ ys → SameRows xs ys
@@ -99,10 +97,10 @@ text_of_report w report number order is = sym (order head.Report number (report_
 }))
 
 -- the text with one report more
-pub one_report_more : (old : Replay) (report : Report) (number : ℕ) (text more : List ℕ) → number ≡ old.reports + 1 → more ≡ report_text head.Report number report → text ≡ old.text ++ more → OrderIsNotPrinted
+pub one_report_more : (old : Replay) (sighting : Sighting) (report : Report) (number : ℕ) (text more : List ℕ) → number ≡ old.reports + 1 → more ≡ report_text head.Report number report → text ≡ old.text ++ more → OrderIsNotPrinted
     → ((stores : List Contents) (ws : List world.Remote) → AreShown stores ws old.remotes.items → IsReportOf old.number (of_each source_row stores ws) (of_each sighted_set stores ws) report)
-    → MakesPlainly (changes reported) old (record old { reports = number; text = text })
-one_report_more old report number text more counted printed put order is stores w has =
+    → MakesPlainly (changes reported) old (record old { sighting = sighting; reports = number; text = text })
+one_report_more old sighting report number text more counted printed put order is stores w has =
     let shown = subst (λ (n : ℕ). IsReportOf n (of_each source_row (drop 1 w.stores) w.remotes) (sets_in w) report) has.local (is (drop 1 w.stores) w.remotes has.shown) in
     let reports_are : number ≡ w.reports + 1 = counted ∙ ap (λ (n : ℕ). n + 1) has.reports in
     record {

@@ -21,7 +21,6 @@ use Rattle.mesh_records.specs.Values.{Config}
 use Rattle.record_check.specs.declared.fault.Fault.{Fault}
 use Rattle.record_check.specs.declared.limit.Limit.{Limit}
 use Rattle.record_check.specs.declared.limit.Limit.TheVariants.{Small}
-use Rattle.exporter.specs.State.{Export}
 use Rattle.relist_merge.specs.Deliveries.{listed}
 use Rattle.relist_merge.specs.Sight.{viewed}
 use Rattle.relist_merge.specs.Told.{told_of, told_under}
@@ -32,9 +31,9 @@ use Rattle.shared_tables.specs.RecordSets.{ConfigSaid, Reading, RecordSet, is_re
 use Rattle.shared_tables.specs.Told.{IsConfig, IsRow, SourceTold, Told, nothing_told, readings, with_config}
 use Rattle.store_api.specs.History.{Pairing}
 use Rattle.store_api.specs.Sets.{seen_set}
-use Rattle.mesh_replay.specs.Rows.{AreFirst, IsOwnView, IsToldOf, TellsSource, entry_of, row_of, with_records}
+use Rattle.mesh_replay.specs.Rows.{AreFirst, IsToldOf, IsViewOf, TellsSource, entry_of, row_of, with_records}
 use Rattle.mesh_replay.specs.Sources.{state_of}
-use Rattle.mesh_replay.specs.declared.remote.Remote.{Remote}
+use Rattle.relist_merge.specs.declared.view.View.{View}
 use Rattle.mesh_replay.proofs.SightedPairs.{get-seen_set}
 use Rattle.mesh_replay.proofs.SourcesTold.{changed-twice}
 
@@ -137,29 +136,27 @@ module _ (name : List ℕ) where
         | false ↦ apart_told pairs apart.1
       ]
 
--- ---- the source of a remote
-abbrev told_by : Remote → Pairs → ConfigSaid → SourceTold
-told_by r pairs config = record { name = r.exporter.cluster; config = config; rows = readings (map entry_of (flat_map (told_of State r.exporter.cluster) pairs)) }
+-- ---- the source of a view's cluster
+abbrev told_by : List ℕ → Pairs → ConfigSaid → SourceTold
+told_by name pairs config = record { name = name; config = config; rows = readings (map entry_of (flat_map (told_of State name) pairs)) }
 
 same_set : (name name' : List ℕ) (config config' : ConfigSaid) (pairs pairs' : List (List ℕ × Reading)) → name ≡ name' → config ≡ config' → pairs ≡ pairs'
     → ◌≡◌ {A = RecordSet} (record { name = name; config = config; pairs = pairs }) (record { name = name'; config = config'; pairs = pairs' })
 same_set name name' config config' pairs pairs' n c p = λ i. record { name = n i; config = c i; pairs = p i }
 
--- a source with the config and the records of the agent's view has the record set that was sighted
-pub told_sighted : (r : Remote) (pairs : Pairs) (config : ConfigSaid) → IsListOf pairs (values (viewed r.agent.view).shown.entries)
-    → config ≡ option_map (checked_config Small) (values (viewed r.agent.view).shown.entries (config_key r.exporter.cluster)) → IsToldOf r (told_by r pairs config)
-told_sighted r pairs config is said history w shown =
-    let name = w.exporter.cluster in
-    let named : r.exporter.cluster ≡ name = ap (λ (e : Export). e.cluster) shown.exporter in
-    let follows = shown.agent.follows in
-    let set : Pairing = seen_set (state_of name) history w.reader.spans in
-    let sighted : (q : List ℕ) → finite.get set q ≡ values (viewed r.agent.view).shown.entries q = λ q. get-seen_set (state_of name) history _ w.reader.spans q follows.formed.0 ∙ sym (follows.sighted.entries q) in
-    same_set r.exporter.cluster name config _ _ _ named
-    (said ∙ ap (λ (k : List ℕ). option_map (checked_config Small) (values (viewed r.agent.view).shown.entries (config_key k))) named ∙ ap (option_map (checked_config Small)) (sym (sighted (config_key name))))
+-- a source with the config and the records of the view has the record set that was sighted
+pub told_sighted : (name : List ℕ) (v : View) (pairs : Pairs) (config : ConfigSaid) → IsViewOf name v → IsListOf pairs (values (viewed v).shown.entries)
+    → config ≡ option_map (checked_config Small) (values (viewed v).shown.entries (config_key name)) → IsToldOf v (told_by name pairs config)
+told_sighted own v pairs config is_own is said name history reader is_view follows =
+    let named : own ≡ name = ap (λ (s : viewed.Source). s.cluster) (sym is_own ∙ is_view) in
+    let set : Pairing = seen_set (state_of name) history reader.spans in
+    let sighted : (q : List ℕ) → finite.get set q ≡ values (viewed v).shown.entries q = λ q. get-seen_set (state_of name) history _ reader.spans q follows.formed.0 ∙ sym (follows.sighted.entries q) in
+    same_set own name config _ _ _ named
+    (said ∙ ap (λ (k : List ℕ). option_map (checked_config Small) (values (viewed v).shown.entries (config_key k))) named ∙ ap (option_map (checked_config Small)) (sym (sighted (config_key name))))
     (ap (λ (k : List ℕ). entries (readings (map entry_of (flat_map (told_of State k) pairs)))) named ∙ entries_told name pairs set (λ q. is.values q ∙ sym (sighted q)))
 
 -- ---- the source is told nothing before
--- the records of the agent's view are told first
+-- the records of the view are told first
 pub first_of_nothing : (name : List ℕ) (pairs : Pairs) (records : List ReadRecord) → IsDistinct same_bytes (keys_of pairs) → records ≡ flat_map (told_of State name) pairs → (s : SourceTold) → s ≡ nothing_told name → AreFirst s records
 first_of_nothing name pairs records apart is s nothing =
     subst (λ (l : List ReadRecord). AreFirst s l) (sym is) (subst (λ (q : SourceTold). AreFirst q (flat_map (told_of State name) pairs)) (sym nothing)
@@ -174,27 +171,28 @@ config_read limit limit' config (Some value) same is = λ said some. (value, sai
     said_is x y e = cc
 
 -- and the source is told so
-pub tells_source : (place : ℕ) (r : Remote) (old new : Told) (pairs : Pairs) (config : ConfigSaid) (records : List ReadRecord) → ForSome (slice_get old.sources place) (λ s. s ≡ nothing_told r.exporter.cluster) → IsOwnView r
-    → IsListOf pairs (values (viewed r.agent.view).shown.entries)
-    → records ≡ flat_map (told_of (viewed r.agent.view).source.hop (viewed r.agent.view).source.cluster) pairs
-    → config ≡ option_map (checked_config (viewed r.agent.view).source.limit) (values (viewed r.agent.view).shown.entries (config_key (viewed r.agent.view).source.cluster))
-    → new ≡ with_config place config (with_records place records old) → TellsSource place r old new
-tells_source place r old new pairs config records nothing own is records_are config_is new_is =
-    let name = r.exporter.cluster in
+pub tells_source : (place : ℕ) (v : View) (old new : Told) (pairs : Pairs) (config : ConfigSaid) (records : List ReadRecord) → ForSome (slice_get old.sources place) (λ s. s ≡ nothing_told (viewed v).source.cluster) → IsViewOf (viewed v).source.cluster v
+    → IsListOf pairs (values (viewed v).shown.entries)
+    → records ≡ flat_map (told_of (viewed v).source.hop (viewed v).source.cluster) pairs
+    → config ≡ option_map (checked_config (viewed v).source.limit) (values (viewed v).shown.entries (config_key (viewed v).source.cluster))
+    → new ≡ with_config place config (with_records place records old) → TellsSource place v old new
+tells_source place v old new pairs config records nothing own is records_are config_is new_is =
+    let name = (viewed v).source.cluster in
     let rows_are : records ≡ flat_map (told_of State name) pairs = records_are ∙ ap (λ (s : viewed.Source). flat_map (told_of s.hop s.cluster) pairs) own in
-    let said : config ≡ option_map (checked_config Small) (values (viewed r.agent.view).shown.entries (config_key name)) =
-    config_is ∙ ap (λ (s : viewed.Source). option_map (checked_config s.limit) (values (viewed r.agent.view).shown.entries (config_key s.cluster))) own in
+    let said : config ≡ option_map (checked_config Small) (values (viewed v).shown.entries (config_key name)) =
+    config_is ∙ ap (λ (s : viewed.Source). option_map (checked_config s.limit) (values (viewed v).shown.entries (config_key s.cluster))) own in
     record {
-      source = told_by r pairs config;
-      is = told_sighted r pairs config is said;
+      source = told_by name pairs config;
+      named = refl;
+      is = told_sighted name v pairs config own is said;
       told = new_is ∙ ap (λ (sources : List SourceTold). record old { sources = sources })
-          (changed-twice (λ (s : SourceTold). record s { rows = readings (map entry_of records) }) (λ (s : SourceTold). record s { config = config }) (λ (s : SourceTold). told_by r pairs config) place old.sources
+          (changed-twice (λ (s : SourceTold). record s { rows = readings (map entry_of records) }) (λ (s : SourceTold). record s { config = config }) (λ (s : SourceTold). told_by name pairs config) place old.sources
           (λ s e. ap (λ (q : SourceTold). record q { config = config; rows = readings (map entry_of records) }) (nothing s e) ∙ ap (λ (l : List ReadRecord). record { name = name; config = config; rows = readings (map entry_of l) }) rows_are));
     }
 
 -- the records of the view are told first
-pub first_of_view : (place : ℕ) (r : Remote) (old : Told) (pairs : Pairs) (records : List ReadRecord) → ForSome (slice_get old.sources place) (λ s. s ≡ nothing_told r.exporter.cluster) → IsOwnView r
-    → IsListOf pairs (values (viewed r.agent.view).shown.entries)
-    → records ≡ flat_map (told_of (viewed r.agent.view).source.hop (viewed r.agent.view).source.cluster) pairs → ForSome (slice_get old.sources place) (λ s. AreFirst s records)
-first_of_view place r old pairs records nothing own is records_are = λ s e.
-    first_of_nothing r.exporter.cluster pairs records is.distinct (records_are ∙ ap (λ (s : viewed.Source). flat_map (told_of s.hop s.cluster) pairs) own) s (nothing s e)
+pub first_of_view : (place : ℕ) (v : View) (old : Told) (pairs : Pairs) (records : List ReadRecord) → ForSome (slice_get old.sources place) (λ s. s ≡ nothing_told (viewed v).source.cluster) → IsViewOf (viewed v).source.cluster v
+    → IsListOf pairs (values (viewed v).shown.entries)
+    → records ≡ flat_map (told_of (viewed v).source.hop (viewed v).source.cluster) pairs → ForSome (slice_get old.sources place) (λ s. AreFirst s records)
+first_of_view place v old pairs records nothing own is records_are = λ s e.
+    first_of_nothing (viewed v).source.cluster pairs records is.distinct (records_are ∙ ap (λ (s : viewed.Source). flat_map (told_of s.hop s.cluster) pairs) own) s (nothing s e)

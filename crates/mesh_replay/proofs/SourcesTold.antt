@@ -14,14 +14,13 @@ use Rattle.record_check.specs.declared.limit.Limit.TheVariants.{Small}
 use Rattle.exporter.specs.State.{Export}
 use Rattle.relist_merge.specs.Viewed as viewed
 use Rattle.relist_merge.specs.declared.telling.ReadRecord.{ReadRecord}
-use Rattle.shared_tables.specs.Told.{IsChange, IsRow, Readings, SourceTold, Told, changed_at, nothing_told, readings, rooms, set_told, source_told, told, with_change}
+use Rattle.shared_tables.specs.Told.{IsChange, IsRow, Readings, SourceTold, Told, changed_at, readings, rooms, source_told, told, with_change}
 use Rattle.shared_tables.specs.declared.change.Row.{Row}
 use Rattle.shared_tables.specs.declared.source.Source.{Source}
 use Rattle.shared_tables.specs.declared.tables.Tables.{Tables}
 use Rattle.store_api.specs.Contents.{Contents}
-use Rattle.mesh_replay.specs.Rows.{AreFirst, AreTold, IsFirst, IsOwnView, IsToldOf, entry_of, first_told, row_of, with_records}
+use Rattle.mesh_replay.specs.Rows.{AreFirst, IsFirst, IsOwnView, entry_of, first_told, row_of, with_records}
 use Rattle.mesh_replay.specs.Shown.{AreShown}
-use Rattle.mesh_replay.specs.Sources.{of_each, sighted_set}
 use Rattle.mesh_replay.specs.World as world
 use Rattle.mesh_replay.specs.declared.remote.Remote.{Remote}
 
@@ -43,17 +42,17 @@ module _ {X : Type 0} where
   changed-twice f g h zero (x ∷ xs) same = ap (λ (y : X). y ∷ xs) (same x refl)
   changed-twice f g h (suc place) (x ∷ xs) same = ap (λ (ys : List X). x ∷ ys) (changed-twice f g h place xs same)
 
-  one_of : (x y : X) → ◌≡◌ {A = Option X} (Some x) (Some y) → y ≡ x
+  pub one_of : (x y : X) → ◌≡◌ {A = Option X} (Some x) (Some y) → y ≡ x
   one_of x y e = cc
 
   -- what is at the place then
-  changed-there : (f : X → X) (place : ℕ) (xs : List X) (P Q : X → Type 0) → ForSome (slice_get xs place) P → ((x : X) → P x → Q (f x)) → ForSome (slice_get (changed_at f place xs) place) Q
+  pub changed-there : (f : X → X) (place : ℕ) (xs : List X) (P Q : X → Type 0) → ForSome (slice_get xs place) P → ((x : X) → P x → Q (f x)) → ForSome (slice_get (changed_at f place xs) place) Q
   changed-there f place [] P Q there so = λ x e. cc
   changed-there f zero (y ∷ xs) P Q there so = λ x e. subst Q (sym (one_of (f y) x e)) (so y (there y refl))
   changed-there f (suc place) (y ∷ xs) P Q there so = changed-there f place xs P Q there so
 
   -- what is said of it, whatever it is
-  some_there : {A : Type 0} (place : ℕ) (xs : List X) → place < length xs → ForSome (slice_get xs place) (λ x. A) → A
+  pub some_there : {A : Type 0} (place : ℕ) (xs : List X) → place < length xs → ForSome (slice_get xs place) (λ x. A) → A
   some_there place [] lt there = absurd (omega (arith, lt))
   some_there zero (x ∷ xs) lt there = there x refl
   some_there (suc place) (x ∷ xs) lt there = some_there place xs (omega (arith, lt)) there
@@ -152,60 +151,6 @@ pub room_made : (n place : ℕ) (rooms : List ℕ) → place < length rooms → 
 room_made n place [] lt = absurd (omega (arith, lt))
 room_made n zero (room ∷ rooms) lt = omega arith
 room_made n (suc place) (room ∷ rooms) lt = room_made n place rooms (omega (arith, lt))
-
--- ---- the sources
--- at first they are told nothing
-start_told : (remotes : List Remote) → AreTold zero remotes (map nothing_told (map (λ (r : Remote). r.exporter.cluster) remotes))
-start_told [] = tt
-start_told (r ∷ remotes) = (refl, start_told remotes)
-
-pub tables_begun : (t : Told) (local : List ℕ) (number : ℕ) (names : List (List ℕ)) (remotes : List Remote) → t ≡ record { local = local; number = number; limit = Small; sources = map nothing_told names } → names ≡ map (λ (r : Remote). r.exporter.cluster) remotes
-    → (t.number ≡ number) × (t.limit ≡ Small) × AreTold zero remotes t.sources
-tables_begun t local number names remotes is named = (
-  ap (λ (t : Told). t.number) is,
-  ap (λ (t : Told). t.limit) is,
-  subst (AreTold zero remotes) (sym (ap (λ (t : Told). t.sources) is ∙ ap (map nothing_told) named)) (start_told remotes),
-)
-
-pub length_told : (place : ℕ) (remotes : List Remote) (sources : List SourceTold) → AreTold place remotes sources → length sources ≡ length remotes
-length_told place [] [] told = refl
-length_told zero (r ∷ remotes) (s ∷ sources) told = ap suc (length_told zero remotes sources told.1)
-length_told (suc place) (r ∷ remotes) (s ∷ sources) told = ap suc (length_told place remotes sources told.1)
-length_told zero [] (s ∷ sources) told = absurd told
-length_told (suc place) [] (s ∷ sources) told = absurd told
-length_told zero (r ∷ remotes) [] told = absurd told
-length_told (suc place) (r ∷ remotes) [] told = absurd told
-
--- the next one was told nothing
-pub next_told : (place : ℕ) (remotes : List Remote) (sources : List SourceTold) (r : Remote) → r ≡ get_or remotes place r → place < length remotes → AreTold place remotes sources
-    → ForSome (slice_get sources place) (λ s. s ≡ nothing_told r.exporter.cluster)
-next_told zero (q ∷ remotes) (s ∷ sources) r is lt told = λ x e. one_of s x e ∙ told.0 ∙ ap (λ (p : Remote). nothing_told p.exporter.cluster) (sym is)
-next_told (suc place) (q ∷ remotes) (s ∷ sources) r is lt told = next_told place remotes sources r is (omega (arith, lt)) told.1
-next_told place [] sources r is lt told = absurd (omega (arith, lt))
-next_told zero (q ∷ remotes) [] r is lt told = absurd told
-next_told (suc place) (q ∷ remotes) [] r is lt told = absurd told
-
--- it is told what was sighted of it
-pub more_told : (place : ℕ) (remotes : List Remote) (sources : List SourceTold) (r : Remote) (said : SourceTold) → r ≡ get_or remotes place r → place < length remotes → AreTold place remotes sources → IsToldOf r said
-    → AreTold (suc place) remotes (changed_at (λ (s : SourceTold). said) place sources)
-more_told zero (q ∷ remotes) (s ∷ sources) r said is lt told new = (subst (λ (p : Remote). IsToldOf p said) is new, told.1)
-more_told (suc place) (q ∷ remotes) (s ∷ sources) r said is lt told new = (told.0, more_told place remotes sources r said is (omega (arith, lt)) told.1 new)
-more_told place [] sources r said is lt told new = absurd (omega (arith, lt))
-more_told zero (q ∷ remotes) [] r said is lt told new = absurd told
-more_told (suc place) (q ∷ remotes) [] r said is lt told new = absurd told
-
--- in the end all are
-pub sets_told : (remotes : List Remote) (sources : List SourceTold) (stores : List Contents) (ws : List world.Remote) → AreTold (length remotes) remotes sources → AreShown stores ws remotes
-    → map set_told sources ≡ of_each sighted_set stores ws
-sets_told [] [] stores [] told shown = refl
-sets_told (r ∷ remotes) (s ∷ sources) (c ∷ stores) (w ∷ ws) told shown = λ i. told.0 c.history w shown.0 i ∷ sets_told remotes sources stores ws told.1 shown.1 i
-sets_told [] (s ∷ sources) stores ws told shown = absurd told
-sets_told (r ∷ remotes) [] stores ws told shown = absurd told
-sets_told [] [] [] (w ∷ ws) told shown = absurd shown
-sets_told [] [] (c ∷ stores) (w ∷ ws) told shown = absurd shown
-sets_told (r ∷ remotes) (s ∷ sources) [] [] told shown = absurd shown
-sets_told (r ∷ remotes) (s ∷ sources) [] (w ∷ ws) told shown = absurd shown
-sets_told (r ∷ remotes) (s ∷ sources) (c ∷ stores) [] told shown = absurd shown
 
 -- ---- the agent views each in its own store
 abbrev source_of : List ℕ → viewed.Source

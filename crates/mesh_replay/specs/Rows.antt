@@ -1,21 +1,24 @@
 -- What the tables of a report are told of each remote.
-use Rattle.std.specs.Prelude.{◌≡◌, ℕ, zero, suc, List, [], ◌∷◌, map, None, Some}
+use Rattle.std.specs.Prelude.{◌≡◌, ℕ, zero, suc, List, [], ◌∷◌, map, Bool, true, None, Some}
 use Rattle.std.specs.FinMap.{empty, get}
 use Rattle.std.specs.List.{AllByRecursion, IsDistinct}
 use Rattle.mesh_base.specs.Order.{same_bytes}
 use Rattle.key_paths.specs.declared.hop.Hop.TheVariants.{State}
 use Rattle.record_check.specs.declared.limit.Limit.TheVariants.{Small}
 use Rattle.relist_merge.specs.Sight.{viewed}
+use Rattle.relist_merge.specs.View.{Follows}
+use Rattle.relist_merge.specs.declared.view.View.{View}
 use Rattle.relist_merge.specs.declared.telling.ReadRecord.{ReadRecord}
 use Rattle.shared_tables.specs.RecordSets.{Reading}
-use Rattle.shared_tables.specs.Told.{IsRow, SourceTold, Told, changed_at, nothing_told, readings, set_told}
+use Rattle.shared_tables.specs.Told.{IsRow, SourceTold, Told, changed_at, readings, set_told, told}
 use Rattle.shared_tables.specs.declared.change.RecordChange.{RecordChange}
 use Rattle.shared_tables.specs.declared.change.Row.{Row}
 use Rattle.store_api.specs.History.{History}
-use Rattle.mesh_replay.specs.Shown.{IsShown}
-use Rattle.mesh_replay.specs.Sources.{sighted_set}
-use Rattle.mesh_replay.specs.World as world
+use Rattle.store_api.specs.Spans.{Record}
+use Rattle.mesh_replay.specs.Sources.{sighted_set, state_of}
 use Rattle.mesh_replay.specs.declared.remote.Remote.{Remote}
+use Rattle.mesh_replay.specs.declared.replay.Replay.{Replay}
+use Rattle.mesh_replay.specs.declared.sighting.Sighting.{Sighting}
 
 -- ---- the records of a source
 -- a record that was read, as a row of the tables
@@ -47,23 +50,46 @@ with_records source records t = record t {
 }
 
 -- ---- what the agent has sighted of a remote
--- the agent views the pairs of the cluster in the cluster's own store
+-- the view is one of the cluster with this name in the cluster's own store
+abbrev pub IsViewOf : List ℕ → View → Type 0
+IsViewOf name v = (viewed v).source ≡ record { cluster = name; hop = State; limit = Small }
+
 abbrev pub IsOwnView : Remote → Type 0
-IsOwnView r = (viewed r.agent.view).source ≡ record { cluster = r.exporter.cluster; hop = State; limit = Small }
+IsOwnView r = IsViewOf r.exporter.cluster r.agent.view
 
--- the record set of the source is what the agent has sighted of the remote
-abbrev pub IsToldOf : Remote → SourceTold → Type 0
-IsToldOf r s = (history : History) (w : world.Remote) → IsShown history w r → set_told s ≡ sighted_set w.exporter.cluster history w.reader
+-- the record set of the source is what the view has sighted, by every history and record that it follows
+abbrev pub IsToldOf : View → SourceTold → Type 0
+IsToldOf v s = (name : List ℕ) (history : History) (reader : Record) → IsViewOf name v → Follows (state_of name) history reader (viewed v).shown → set_told s ≡ sighted_set name history reader
 
--- the source at the place is told what the agent has sighted of the remote
-pub record TellsSource (place : ℕ) (r : Remote) (old new : Told) : Type 0 where
+-- the source at the place is told what was sighted of its cluster
+pub record TellsSource (place : ℕ) (v : View) (old new : Told) : Type 0 where
   pub source : SourceTold
-  pub is : IsToldOf r source
+  pub named : source.name ≡ (viewed v).source.cluster
+  pub is : IsToldOf v source
   pub told : new ≡ record old { sources = changed_at (λ (s : SourceTold). source) place old.sources }
 
--- so are the sources before the place, and nothing was told of the others
-abbrev pub AreTold : ℕ → List Remote → List SourceTold → Type 0
-AreTold place [] [] = Unit {0}
-AreTold zero (r ∷ remotes) (s ∷ sources) = (s ≡ nothing_told r.exporter.cluster) × AreTold zero remotes sources
-AreTold (suc place) (r ∷ remotes) (s ∷ sources) = IsToldOf r s × AreTold place remotes sources
-AreTold place _ _ = ⊥
+-- ---- what is kept of that from report to report
+-- the source is the view's, and where it is marked so, it is told all that was sighted
+pub record IsSource (marked : Bool) (v : View) (s : SourceTold) : Type 0 where
+  pub view : IsViewOf s.name v
+  pub told : marked ≡ true → IsToldOf v s
+
+abbrev pub AreSources : List Bool → List Remote → List SourceTold → Type 0
+AreSources [] [] [] = Unit {0}
+AreSources (t ∷ ts) (r ∷ remotes) (s ∷ sources) = IsSource t r.agent.view s × AreSources ts remotes sources
+AreSources _ _ _ = ⊥
+
+-- the first so many are marked
+abbrev pub AreMarked : ℕ → List Bool → Type 0
+AreMarked zero ts = Unit {0}
+AreMarked (suc n) [] = ⊥
+AreMarked (suc n) (t ∷ ts) = (t ≡ true) × AreMarked n ts
+
+-- the tables are those of the remotes, where the local cluster has this number
+pub record HasTables (number : ℕ) (remotes : List Remote) (sighting : Sighting) : Type 0 where
+  pub number_is : (told sighting.tables).number ≡ number
+  pub limit : (told sighting.tables).limit ≡ Small
+  pub sources : AreSources sighting.told.items remotes (told sighting.tables).sources
+
+abbrev pub IsTold : Replay → Type 0
+IsTold replay = HasTables replay.number replay.remotes.items replay.sighting

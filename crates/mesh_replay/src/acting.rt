@@ -1,7 +1,9 @@
 // The actions of a scenario, over stores whose calls may be lost.
 ghost use Rattle.std.specs.Prelude.{◌≡◌, ◌≤◌, ◌<◌, ◌+◌, List, All, OnOk, length, map, true};
+ghost use Rattle.std.specs.List.{AllByRecursion};
 ghost use Rattle.scenario_lang.specs.Valid.{IsActionOf};
 ghost use Rattle.mesh_replay.specs.Actions.{act, act_all, changes, compacted, export, is_change, keep, most, place_of, restarted, start, tick_from, turn, write_raw};
+ghost use Rattle.mesh_replay.specs.Rows.{IsOwnView, IsTold};
 ghost use Rattle.mesh_replay.specs.Shown.{HasSomeWorld, Makes, MakesPlainly};
 
 use crate::replay::Replay;
@@ -9,6 +11,8 @@ use crate::stores;
 use mesh_base::Memory;
 use scenario_lang::{Action, Count, RawWrite, StoreOf};
 use std::alloc::Global;
+use std::marker::Brand;
+use std::sync::ledger::Blank;
 use store_api::StoreAdmin;
 
 // How many items or revisions at most.
@@ -37,7 +41,9 @@ impl Replay {
     fn start<S: StoreAdmin>(&mut self, remote: usize, stores: &mut [S]) -> Result<(), Memory>
         requires world { HasSomeWorld self.old (map S.meaning stores.old) }
         requires remote { remote < length self.old.remotes.items }
+        requires told { IsTold self.old }
         ensures done { OnOk result (Makes (start remote) self.old self.new (map S.meaning stores.old) (map S.meaning stores.new)) }
+        ensures told { IsTold self.new }
     {
         let store = &mut stores[remote + 1];
         self.remotes[remote].start(store)
@@ -46,7 +52,9 @@ impl Replay {
     fn keep<S: StoreAdmin>(&mut self, remote: usize, stores: &mut [S]) -> Result<(), Memory>
         requires world { HasSomeWorld self.old (map S.meaning stores.old) }
         requires remote { remote < length self.old.remotes.items }
+        requires told { IsTold self.old }
         ensures done { OnOk result (Makes (keep remote) self.old self.new (map S.meaning stores.old) (map S.meaning stores.new)) }
+        ensures told { IsTold self.new }
     {
         let store = &mut stores[remote + 1];
         self.remotes[remote].keep(store)
@@ -60,12 +68,16 @@ impl Replay {
     ) -> Result<(), Memory>
         requires world { HasSomeWorld self.old (map S.meaning stores.old) }
         requires remote { remote < length self.old.remotes.items }
+        requires told { IsTold self.old }
         ensures done { OnOk result (Makes (export remote most) self.old self.new (map S.meaning stores.old) (map S.meaning stores.new)) }
+        ensures told { IsTold self.new }
     {
         let store = &mut stores[remote + 1];
         self.remotes[remote].export(store, most)
     }
 
+    // One turn of the agent's reader. What it lists is told to the tables at once, and what it pulls at
+    // the next report.
     fn turn<S: StoreAdmin>(
         &mut self,
         alloc: Global,
@@ -76,10 +88,21 @@ impl Replay {
         requires world { HasSomeWorld self.old (map S.meaning stores.old) }
         requires remote { remote < length self.old.remotes.items }
         requires some { 1 ≤ most }
+        requires told { IsTold self.old }
         ensures done { OnOk result (Makes (turn remote most) self.old self.new (map S.meaning stores.old) (map S.meaning stores.new)) }
+        ensures told { OnOk result (IsTold self.new) }
     {
+        let lists = self.remotes[remote].agent.reader.is_waiting();
         let store = &mut stores[remote + 1];
-        self.remotes[remote].turn(alloc, store, most)
+        if !self.remotes[remote].turn(alloc, store, most)? {
+            return Ok(());
+        }
+        self.sighting.forget(remote);
+        if lists {
+            self.sighting
+                .tell::<Brand>(alloc, Blank::new(1), self.remotes.as_slice(), remote)?;
+        }
+        Ok(())
     }
 }
 
@@ -95,6 +118,7 @@ impl Replay {
         requires world { HasSomeWorld self.old (map S.meaning stores.old) }
         requires remote { remote < length self.old.remotes.items }
         ensures done { OnOk result (Makes (write_raw remote write.now) self.old self.new (map S.meaning stores.old) (map S.meaning stores.new)) }
+        ensures same { self.new ≡ self.old }
     {
         let _ = self.reports;
         stores::write_raw(alloc, &mut stores[remote + 1], write)
@@ -110,6 +134,7 @@ impl Replay {
         requires world { HasSomeWorld self.old (map S.meaning stores.old) }
         requires place { place_of store ≤ length self.old.remotes.items }
         ensures done { OnOk result (Makes (changes (compacted (place_of store) upto)) self.old self.new (map S.meaning stores.old) (map S.meaning stores.new)) }
+        ensures same { self.new ≡ self.old }
     {
         let _ = self.reports;
         stores::compact(alloc, &mut stores[place_of(store)], upto)
@@ -124,6 +149,7 @@ impl Replay {
     ) -> Result<(), Memory>
         requires world { HasSomeWorld self.old (map S.meaning stores.old) }
         ensures done { OnOk result (Makes (λ w. tick_from 0 (length w.remotes + 1) seconds w) self.old self.new (map S.meaning stores.old) (map S.meaning stores.new)) }
+        ensures same { self.new ≡ self.old }
     {
         for place in 0..self.remotes.len() + 1 {
             stores::tick(alloc, &mut stores[place], seconds)?;
@@ -135,9 +161,13 @@ impl Replay {
 impl Replay {
     // Every reader and view of the agent begins new.
     fn restart_agent(&mut self, alloc: Global) -> Result<(), Memory>
-        ensures { OnOk result (MakesPlainly (changes restarted) self.old self.new) }
+        requires own { AllByRecursion IsOwnView self.old.remotes.items }
+        requires told { IsTold self.old }
+        ensures done { OnOk result (MakesPlainly (changes restarted) self.old self.new) }
+        ensures told { OnOk result (IsTold self.new) }
     {
         for place in 0..self.remotes.len() {
+            self.sighting.forget(place);
             self.remotes[place].restart_agent(alloc)?;
         }
         Ok(())
@@ -146,8 +176,10 @@ impl Replay {
     // A record is declared or withdrawn, an exporter stops, or a link is changed; other actions are none
     // of these.
     fn change(&mut self, alloc: Global, action: &Action) -> Result<(), Memory>
-        requires { IsActionOf (length self.old.remotes.items) action.now }
-        ensures { OnOk result (is_change action.now ≡ true → MakesPlainly (act action.now) self.old self.new) }
+        requires action { IsActionOf (length self.old.remotes.items) action.now }
+        requires told { IsTold self.old }
+        ensures done { OnOk result (is_change action.now ≡ true → MakesPlainly (act action.now) self.old self.new) }
+        ensures told { IsTold self.new }
     {
         match action {
             Action::Node {
@@ -195,7 +227,9 @@ impl Replay {
     ) -> Result<(), Memory>
         requires world { HasSomeWorld self.old (map S.meaning stores.old) }
         requires action { IsActionOf (length self.old.remotes.items) action.now }
-        ensures { OnOk result (Makes (act action.now) self.old self.new (map S.meaning stores.old) (map S.meaning stores.new)) }
+        requires told { IsTold self.old }
+        ensures done { OnOk result (Makes (act action.now) self.old self.new (map S.meaning stores.old) (map S.meaning stores.new)) }
+        ensures told { OnOk result (IsTold self.new) }
     {
         match action {
             Action::Start { remote } => self.start(*remote, stores),
@@ -220,6 +254,7 @@ impl Replay {
     ) -> Result<(), Memory>
         requires world { HasSomeWorld self.old (map S.meaning stores.old) }
         requires actions { All (IsActionOf (length self.old.remotes.items)) actions.now }
+        requires told { IsTold self.old }
         ensures done { OnOk result (Makes (act_all actions.now) self.old self.new (map S.meaning stores.old) (map S.meaning stores.new)) }
     {
         for action in actions {

@@ -145,7 +145,8 @@ impl Remote {
         name: &PartName,
         addresses: &[Ip],
     ) -> Result<(), Memory>
-        ensures { OnOk result (Changes (with_exporter (declaring_node name.now addresses.now)) self.old self.new) }
+        ensures changes { OnOk result (Changes (with_exporter (declaring_node name.now addresses.now)) self.old self.new) }
+        ensures agent { self.new.agent ≡ self.old.agent }
     {
         let cluster = self.exporter.cluster();
         let key = node_key(cluster, name)?;
@@ -160,7 +161,8 @@ impl Remote {
         number: u32,
         labels: &IdentityRecord,
     ) -> Result<(), Memory>
-        ensures { OnOk result (Changes (with_exporter (declaring (identity_key number) (identity_of labels.now))) self.old self.new) }
+        ensures changes { OnOk result (Changes (with_exporter (declaring (identity_key number) (identity_of labels.now))) self.old self.new) }
+        ensures agent { self.new.agent ≡ self.old.agent }
     {
         let key = Key::Identity {
             cached: None,
@@ -179,7 +181,8 @@ impl Remote {
         host: Option<Ip>,
         pod: &Option<Pod>,
     ) -> Result<(), Memory>
-        ensures { OnOk result (Changes (with_exporter (declaring (address_key ip) (address_of ip number host pod.now))) self.old self.new) }
+        ensures changes { OnOk result (Changes (with_exporter (declaring (address_key ip) (address_of ip number host pod.now))) self.old self.new) }
+        ensures agent { self.new.agent ≡ self.old.agent }
     {
         let key = Key::Address { cached: None, ip };
         let record = address(alloc, ip, number, host, pod)?;
@@ -188,7 +191,8 @@ impl Remote {
 
     /// The exporter withdraws a record.
     pub fn withdraw(&mut self, withdrawn: &Withdrawn) -> Result<(), Memory>
-        ensures { OnOk result (Changes (with_exporter (withdrawing withdrawn.now)) self.old self.new) }
+        ensures changes { OnOk result (Changes (with_exporter (withdrawing withdrawn.now)) self.old self.new) }
+        ensures agent { self.new.agent ≡ self.old.agent }
     {
         let key = withdrawn_key(self.exporter.cluster(), withdrawn)?;
         self.exporter.withdraw(&key)

@@ -1,11 +1,13 @@
 // What the program keeps of one remote cluster.
-ghost use Rattle.std.specs.Prelude.{◌≡◌, ◌≤◌, ℕ, List, IfOk, OnOk, None, Some, true};
+ghost use Rattle.std.specs.Prelude.{◌≡◌, ◌≤◌, ℕ, List, IfOk, OnOk, None, Some, true, Ok, false};
 ghost use Rattle.exporter.specs.State.{after_stop};
 ghost use Rattle.store_api.specs.Crossing.{to_grant, to_keep_alive};
 ghost use Rattle.store_api.specs.History.{History};
 ghost use Rattle.store_api.specs.Spans.{unread};
 ghost use Rattle.scenario_lang.specs.declared.scenario.LinkName.TheVariants as link;
+ghost use Rattle.relist_merge.specs.Sight.{viewed};
 ghost use Rattle.mesh_replay.specs.Actions.{asked, kept_by, started_by, turned_by, when_of, with_failure, with_way};
+ghost use Rattle.mesh_replay.specs.Rows.{IsOwnView};
 ghost use Rattle.mesh_replay.specs.Shown.{Asks, Changes, IsShown, IsSome, Writes};
 ghost use Rattle.mesh_replay.specs.World.{new_remote, with_exporter, with_link, with_reader};
 
@@ -60,6 +62,7 @@ impl Remote {
     /// Starts the exporter.
     pub fn start<S: Store>(&mut self, store: &mut S) -> Result<(), Memory>
         ensures asks { OnOk result (Asks link.Exporter (λ w. to_grant w.exporter.seconds) (λ end contents. with_exporter (started_by end contents)) self.old self.new (S.meaning store.old) (S.meaning store.new)) }
+        ensures agent { self.new.agent ≡ self.old.agent }
         ensures named { S.name store.new ≡ S.name store.old }
         ensures loans { S.loans store.new ≡ S.loans store.old }
     {
@@ -70,6 +73,7 @@ impl Remote {
     pub fn keep<S: Store>(&mut self, store: &mut S) -> Result<(), Memory>
         ensures stopped { OnOk result (self.old.exporter.lease ≡ None → (store.new ≡ store.old) × Changes (λ w. w) self.old self.new) }
         ensures asks { OnOk result ((lease : ℕ) → self.old.exporter.lease ≡ Some lease → Asks link.Exporter (λ w. to_keep_alive lease) (λ end contents. with_exporter (kept_by end)) self.old self.new (S.meaning store.old) (S.meaning store.new)) }
+        ensures agent { self.new.agent ≡ self.old.agent }
         ensures named { S.name store.new ≡ S.name store.old }
         ensures loans { S.loans store.new ≡ S.loans store.old }
     {
@@ -80,17 +84,26 @@ impl Remote {
     pub fn export<S: Store>(&mut self, store: &mut S, most: u64) -> Result<(), Memory>
         requires writable { (key : List ℕ) → (S.meaning store.old).writable key ≡ true }
         ensures writes { OnOk result (Writes most self.old self.new (S.meaning store.old) (S.meaning store.new)) }
+        ensures agent { self.new.agent ≡ self.old.agent }
         ensures named { S.name store.new ≡ S.name store.old }
         ensures loans { S.loans store.new ≡ S.loans store.old }
     {
         exporters::export(&mut self.exporter, &mut self.to_exporter, store, most)
     }
 
-    /// One turn of the agent's reader, of at most so many revisions.
-    pub fn turn<S: Store>(&mut self, alloc: Global, store: &mut S, most: u64) -> Result<(), Memory>
+    /// One turn of the agent's reader, of at most so many revisions; the answer says whether the agent was
+    /// handed anything.
+    pub fn turn<S: Store>(
+        &mut self,
+        alloc: Global,
+        store: &mut S,
+        most: u64,
+    ) -> Result<bool, Memory>
         requires some { 1 ≤ most }
         requires shown { IsSome (S.meaning store.old).contents.history self.old }
         ensures asks { OnOk result (Asks link.Agent (λ w. asked w.reader) (λ end contents. with_reader (turned_by most end contents)) self.old self.new (S.meaning store.old) (S.meaning store.new)) }
+        ensures source { (viewed self.new.agent.view).source ≡ (viewed self.old.agent.view).source }
+        ensures nothing { result ≡ Ok false → self.new.agent.view ≡ self.old.agent.view }
         ensures named { S.name store.new ≡ S.name store.old }
         ensures loans { S.loans store.new ≡ S.loans store.old }
     {
@@ -111,7 +124,8 @@ fn when_of(moment: Moment) -> When
 impl Remote {
     /// Stops the exporter.
     pub fn stop(&mut self)
-        ensures { Changes (with_exporter after_stop) self.old self.new }
+        ensures changes { Changes (with_exporter after_stop) self.old self.new }
+        ensures agent { self.new.agent ≡ self.old.agent }
     {
         self.exporter.stop();
     }
@@ -119,7 +133,8 @@ impl Remote {
     /// Sets a link up or down. A remote that is watched in its own store has those of its exporter and of
     /// the agent alone.
     pub fn set_link(&mut self, link: LinkName, up: bool)
-        ensures { Changes (with_link link (with_way up)) self.old self.new }
+        ensures changes { Changes (with_link link (with_way up)) self.old self.new }
+        ensures agent { self.new.agent ≡ self.old.agent }
     {
         match link {
             LinkName::Exporter => set_way(&mut self.to_exporter, up),
@@ -130,7 +145,8 @@ impl Remote {
 
     /// Plans a failure of a link, behind the others.
     pub fn fail(&mut self, link: LinkName, skip: u32, moment: Moment) -> Result<(), Memory>
-        ensures { OnOk result (Changes (with_link link (with_failure skip (when_of moment))) self.old self.new) }
+        ensures changes { OnOk result (Changes (with_link link (with_failure skip (when_of moment))) self.old self.new) }
+        ensures agent { self.new.agent ≡ self.old.agent }
     {
         match link {
             LinkName::Exporter => self.to_exporter.fail(skip, when_of(moment)),
@@ -141,7 +157,9 @@ impl Remote {
 
     /// The agent's reader and view begin new.
     pub fn restart_agent(&mut self, alloc: Global) -> Result<(), Memory>
-        ensures { OnOk result (Changes (with_reader (λ r. unread)) self.old self.new) }
+        ensures changes { OnOk result (Changes (with_reader (λ r. unread)) self.old self.new) }
+        ensures exporter { self.new.exporter ≡ self.old.exporter }
+        ensures own { OnOk result (IsOwnView self.new) }
     {
         self.agent = Agent::new(alloc, self.exporter.cluster())?;
         Ok(())

@@ -5,10 +5,12 @@ ghost use Rattle.scenario_lang.specs.declared.kinds.Mode.TheVariants as mode;
 ghost use Rattle.store_api.specs.Meaning.{Meaning};
 ghost use Rattle.mesh_replay.specs.Goes.{IsOpen};
 ghost use Rattle.mesh_replay.specs.Program.{contents_of};
+ghost use Rattle.mesh_replay.specs.Rows.{IsTold};
 ghost use Rattle.mesh_replay.specs.Shown.{AreNew, HasWorld};
 ghost use Rattle.mesh_replay.specs.World.{first_world, seconds_of};
 
 use crate::remote::Remote;
+use crate::sighting::Sighting;
 use mesh_base::{Bytes, Memory};
 use mesh_text::ClusterName;
 use scenario_lang::Scenario;
@@ -25,6 +27,8 @@ pub struct Replay {
     pub number: u32,
     /// In the scenario's order; the store of the remote at a place is the one behind that place.
     pub remotes: Vec<Remote>,
+    /// What the agent has sighted of the remotes, in their order.
+    pub sighting: Sighting,
     /// How many reports there are.
     pub reports: u64,
     pub text: Bytes,
@@ -61,13 +65,18 @@ impl Replay {
     /// The beginning of a scenario: nobody has written or read anything.
     pub fn new(alloc: Global, scenario: &Scenario) -> Result<Replay, Memory>
         requires { IsValid mode.Step scenario.now }
-        ensures { IfOk result (λ replay. (stores : List Meaning) → length stores ≡ 256 → All IsOpen stores → HasWorld (first_world scenario.now (contents_of stores)) replay stores) }
+        ensures world { IfOk result (λ replay. (stores : List Meaning) → length stores ≡ 256 → All IsOpen stores → HasWorld (first_world scenario.now (contents_of stores)) replay stores) }
+        ensures told { IfOk result IsTold }
     {
+        let local = copy_name(&scenario.local.name)?;
+        let number = scenario.local.number;
         let remotes = new_remotes(alloc, scenario, seconds_of(scenario))?;
+        let sighting = Sighting::new(alloc, &local, number, remotes.as_slice())?;
         Ok(Replay {
-            local: copy_name(&scenario.local.name)?,
-            number: scenario.local.number,
+            local,
+            number,
             remotes,
+            sighting,
             reports: 0,
             text: Bytes::new(alloc),
         })

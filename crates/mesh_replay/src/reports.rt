@@ -1,25 +1,21 @@
 // A report of what the agent has sighted.
-ghost use Rattle.std.specs.Prelude.{◌≡◌, ◌≤◌, ◌<◌, ◌∷◌, List, IfOk, OnOk, length, map};
-ghost use Rattle.std.specs.List.{AllByRecursion, IsDistinct};
-ghost use Rattle.mesh_base.specs.Order.{same_bytes};
+ghost use Rattle.std.specs.Prelude.{◌≡◌, ◌≤◌, ◌<◌, ℕ, List, IfOk, OnOk, length};
 ghost use Rattle.store_api.specs.Contents.{Contents};
 ghost use Rattle.store_api.specs.History.{History};
 ghost use Rattle.store_api.specs.Meaning.{Meaning};
 ghost use Rattle.mesh_replay.specs.Actions.{changes, reported};
-ghost use Rattle.mesh_replay.specs.Rows.{IsOwnView};
+ghost use Rattle.mesh_replay.specs.Rows.{HasTables, IsTold};
 ghost use Rattle.mesh_replay.specs.Shown.{AreShown, HasSomeWorld, IsShown, MakesPlainly};
 ghost use Rattle.mesh_replay.specs.Sources.{IsReportOf, of_each, sighted_set, source_row};
 ghost use Rattle.mesh_replay.specs.World as world;
-ghost use Rattle.mesh_replay.specs.declared.remote.Remote as remote;
 
 use crate::remote::Remote;
 use crate::replay::Replay;
-use crate::sighting::tables_of;
+use crate::sighting::Sighting;
 use key_paths::Hop;
 use mesh_base::{Items, Memory};
-use mesh_text::ClusterName;
 use report_text::{Head, order_is_not_printed, report_bytes};
-use shared_tables::{Report, SourceRow, Steps};
+use shared_tables::{Report, SourceRow};
 use std::alloc::Global;
 use std::marker::Brand;
 use std::sync::ledger::{Blank, Ledger};
@@ -46,25 +42,22 @@ fn source_rows(alloc: Global, remotes: &[Remote]) -> Result<Items<SourceRow>, Me
     Ok(rows)
 }
 
-// The report of the remotes; it counts no steps for anybody.
+// The report of the remotes.
 fn report_of<L: Ledger>(
     alloc: Global,
     blank: Blank,
-    local: &ClusterName,
-    number: u32,
+    sighting: &mut Sighting,
     remotes: &[Remote],
 ) -> Result<Report, Memory>
     requires name { blank.name ≡ L.name }
     requires parts { blank.parts ≡ L.parts }
     requires some { 0 < blank.parts }
     requires few { length remotes.now ≤ 255 }
-    requires own { AllByRecursion IsOwnView remotes.now }
-    requires apart { IsDistinct same_bytes (local.now ∷ map (λ (r : remote.Remote). r.exporter.cluster) remotes.now) }
-    ensures { IfOk result (λ report. (stores : List Contents) (ws : List world.Remote) → AreShown stores ws remotes.now → IsReportOf number (of_each source_row stores ws) (of_each sighted_set stores ws) report) }
+    requires tables { (number : ℕ) × HasTables number remotes.now sighting.old }
+    ensures report { IfOk result (λ report. (number : ℕ) (stores : List Contents) (ws : List world.Remote) → HasTables number remotes.now sighting.old → AreShown stores ws remotes.now → IsReportOf number (of_each source_row stores ws) (of_each sighted_set stores ws) report) }
+    ensures tables { OnOk result ((number : ℕ) → HasTables number remotes.now sighting.old → HasTables number remotes.now sighting.new) }
 {
-    let mut steps = Steps::<L>::new(blank);
-    let tables = tables_of(alloc, local, number, remotes, &mut steps)?;
-    let mut report = tables.report(alloc, &mut steps)?;
+    let mut report = sighting.report::<L>(alloc, blank, remotes)?;
     report.sources = source_rows(alloc, remotes)?;
     Ok(report)
 }
@@ -73,7 +66,9 @@ impl Replay {
     /// Puts a report of what the agent has sighted behind the text.
     pub fn report(&mut self, alloc: Global) -> Result<(), Memory>
         requires world { (stores : List Meaning) × HasSomeWorld self.old stores }
-        ensures { OnOk result (MakesPlainly (changes reported) self.old self.new) }
+        requires told { IsTold self.old }
+        ensures done { OnOk result (MakesPlainly (changes reported) self.old self.new) }
+        ensures told { OnOk result (IsTold self.new) }
     {
         let Some(number) = self.reports.checked_add(1) else {
             return Err(Memory);
@@ -81,8 +76,7 @@ impl Replay {
         let report = report_of::<Brand>(
             alloc,
             Blank::new(1),
-            &self.local,
-            self.number,
+            &mut self.sighting,
             self.remotes.as_slice(),
         )?;
         order_is_not_printed();

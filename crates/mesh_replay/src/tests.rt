@@ -139,6 +139,18 @@ fn a_compaction_in_front_of_the_reader_makes_it_list_again(rt: HostRuntime) -> R
 }
 
 #[test]
+fn each_report_shows_what_the_agent_has_sighted_by_then(rt: HostRuntime) -> Result<(), Fail> {
+    let alloc = rt.alloc();
+    let scenario =
+        "mesh 1\nlocal home 9\nremote east 1 direct\nremote west 2 direct\nnode east n1 10.0.0.1\nnode west w1 10.2.0.1\nstart east\nstart west\nexport east all\nexport west all\nturn agent east all\nturn agent west all\nreport\nturn agent east all\nreport\nwithdraw east node n1\nnode east n2 10.0.0.2\nexport east all\nreport\nturn agent east 1\nturn agent east all\nreport\nrestart agent\nreport\nturn agent west all\nreport\n";
+    let written =
+        "report 1\nsource east direct 7\nsource west direct 7\nnode east n1 InternalIP=10.0.0.1\nnode west w1 InternalIP=10.2.0.1\nend\nreport 2\nsource east direct 7\nsource west direct 7\nnode east n1 InternalIP=10.0.0.1\nnode west w1 InternalIP=10.2.0.1\nend\nreport 3\nsource east direct 7\nsource west direct 7\nnode east n1 InternalIP=10.0.0.1\nnode west w1 InternalIP=10.2.0.1\nend\nreport 4\nsource east direct 9\nsource west direct 7\nnode east n2 InternalIP=10.0.0.2\nnode west w1 InternalIP=10.2.0.1\nend\nreport 5\nsource east direct held 0\nsource west direct held 0\nend\nreport 6\nsource east direct held 0\nsource west direct 7\nnode west w1 InternalIP=10.2.0.1\nend\n";
+    let got = reports(alloc, scenario)?;
+    assert_eq!(rt; got.as_slice(), written.as_bytes());
+    Ok(())
+}
+
+#[test]
 fn clusters_share_addresses_and_numbers(rt: HostRuntime) -> Result<(), Fail> {
     let alloc = rt.alloc();
     for (scenario, written) in [

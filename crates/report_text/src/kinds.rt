@@ -12,7 +12,7 @@ use std::alloc::Global;
 pub(crate) fn source_lines(alloc: Global, rows: &[SourceRow]) -> Result<Vec<Bytes>, Memory>
     ensures { IfOk result (λ lines. lines.items ≡ map text.source_line rows.now) }
 {
-    let mut lines = Vec::new(alloc);
+    let mut lines = Vec::with_capacity(alloc, rows.len())?;
     for row in rows {
         lines.push(source_line(alloc, row)?)?;
     }
@@ -22,7 +22,7 @@ pub(crate) fn source_lines(alloc: Global, rows: &[SourceRow]) -> Result<Vec<Byte
 pub(crate) fn node_lines(alloc: Global, rows: &[NodeRow]) -> Result<Vec<Bytes>, Memory>
     ensures { IfOk result (λ lines. lines.items ≡ map text.node_line rows.now) }
 {
-    let mut lines = Vec::new(alloc);
+    let mut lines = Vec::with_capacity(alloc, rows.len())?;
     for row in rows {
         lines.push(node_line(alloc, row)?)?;
     }
@@ -32,7 +32,7 @@ pub(crate) fn node_lines(alloc: Global, rows: &[NodeRow]) -> Result<Vec<Bytes>, 
 pub(crate) fn identity_lines(alloc: Global, rows: &[IdentityRow]) -> Result<Vec<Bytes>, Memory>
     ensures { IfOk result (λ lines. lines.items ≡ map text.identity_line rows.now) }
 {
-    let mut lines = Vec::new(alloc);
+    let mut lines = Vec::with_capacity(alloc, rows.len())?;
     for row in rows {
         lines.push(identity_line(alloc, row)?)?;
     }
@@ -42,7 +42,7 @@ pub(crate) fn identity_lines(alloc: Global, rows: &[IdentityRow]) -> Result<Vec<
 pub(crate) fn address_lines(alloc: Global, rows: &[AddressRow]) -> Result<Vec<Bytes>, Memory>
     ensures { IfOk result (λ lines. lines.items ≡ map text.address_line rows.now) }
 {
-    let mut lines = Vec::new(alloc);
+    let mut lines = Vec::with_capacity(alloc, rows.len())?;
     for row in rows {
         lines.push(address_line(alloc, row)?)?;
     }
@@ -52,7 +52,7 @@ pub(crate) fn address_lines(alloc: Global, rows: &[AddressRow]) -> Result<Vec<By
 pub(crate) fn backend_lines(alloc: Global, rows: &[BackendRow]) -> Result<Vec<Bytes>, Memory>
     ensures { IfOk result (λ lines. lines.items ≡ map text.backend_line rows.now) }
 {
-    let mut lines = Vec::new(alloc);
+    let mut lines = Vec::with_capacity(alloc, rows.len())?;
     for row in rows {
         lines.push(backend_line(alloc, row)?)?;
     }
@@ -62,7 +62,7 @@ pub(crate) fn backend_lines(alloc: Global, rows: &[BackendRow]) -> Result<Vec<By
 pub(crate) fn chosen_lines(alloc: Global, rows: &[BackendRow]) -> Result<Vec<Bytes>, Memory>
     ensures { IfOk result (λ lines. lines.items ≡ map text.chosen_line rows.now) }
 {
-    let mut lines = Vec::new(alloc);
+    let mut lines = Vec::with_capacity(alloc, rows.len())?;
     for row in rows {
         lines.push(chosen_line(alloc, row)?)?;
     }
@@ -72,7 +72,7 @@ pub(crate) fn chosen_lines(alloc: Global, rows: &[BackendRow]) -> Result<Vec<Byt
 pub(crate) fn reject_lines(alloc: Global, rows: &[RejectRow]) -> Result<Vec<Bytes>, Memory>
     ensures { IfOk result (λ lines. lines.items ≡ map text.reject_line rows.now) }
 {
-    let mut lines = Vec::new(alloc);
+    let mut lines = Vec::with_capacity(alloc, rows.len())?;
     for row in rows {
         lines.push(reject_line(alloc, row)?)?;
     }

@@ -1,7 +1,9 @@
 // Words in lines, and lines in byte order.
 ghost use Rattle.std.specs.Prelude.{◌≡◌, ◌++◌, [], List, ℕ, IfOk, OnOk, codes, flat_map};
+ghost use Rattle.std.specs.Fmt.{decimal};
 ghost use Rattle.report_text.specs.Lines.{text_of_lines};
 
+use itoa::Buffer;
 use mesh_base::{Bytes, Memory};
 use std::alloc::Global;
 
@@ -9,7 +11,7 @@ use std::alloc::Global;
 const LINE: usize = 64;
 
 /// An empty line, with memory for a usual one.
-pub(crate) fn empty_line(alloc: Global) -> Result<Bytes, Memory>
+fn empty_line(alloc: Global) -> Result<Bytes, Memory>
     ensures { IfOk result (λ line. line ≡ []) }
 {
     Ok(Bytes::from_vec(Vec::with_capacity(alloc, LINE)?))
@@ -31,6 +33,14 @@ pub(crate) fn push_word(line: &mut Bytes, word: &[u8]) -> Result<(), Memory>
     line.extend_from_slice(" ".as_bytes())?;
     line.extend_from_slice(word)?;
     Ok(())
+}
+
+/// Puts a space and the decimal number behind the line.
+pub(crate) fn push_number(line: &mut Bytes, number: u64) -> Result<(), Memory>
+    ensures { OnOk result (line.new ≡ line.old ++ (codes " " ++ decimal number)) }
+{
+    let mut buffer = Buffer::new();
+    push_word(line, buffer.format(number).as_bytes())
 }
 
 fn push_all(out: &mut Bytes, lines: &[Bytes]) -> Result<(), Memory>

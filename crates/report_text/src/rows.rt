@@ -4,22 +4,24 @@ ghost use Rattle.report_text.specs.Lines.{rest_of_line};
 ghost use Rattle.report_text.specs.Text as text;
 ghost use Rattle.report_text.specs.Words.{revision_words, typed_address};
 
-use crate::lines::{line_of, push_word};
+use crate::escapes::push_escaped_word;
+use crate::lines::{line_of, push_number, push_word};
 use crate::words::{
-    address_or_none, backend_word, hop_word, labels_word, text_or_none, typed_address, why_word,
+    address_or_none, backend_word, hop_word, push_labels, push_text_or_none, typed_address,
+    why_word,
 };
 use mesh_base::{Bytes, Memory};
-use mesh_text::{Ip, Text, escape, write_ip};
+use mesh_text::{Ip, Text, write_ip};
 use shared_tables::{AddressRow, BackendRow, IdentityRow, NodeRow, RejectRow, SourceRow};
 use std::alloc::Global;
 
-fn push_revision(alloc: Global, line: &mut Bytes, held: bool, revision: u64) -> Result<(), Memory>
+fn push_revision(line: &mut Bytes, held: bool, revision: u64) -> Result<(), Memory>
     ensures { OnOk result (line.new ≡ line.old ++ rest_of_line (revision_words held revision)) }
 {
     if held {
         push_word(line, "held".as_bytes())?;
     }
-    push_word(line, revision.to_string(alloc)?.as_bytes())?;
+    push_number(line, revision)?;
     line.extend_from_slice("\n".as_bytes())?;
     Ok(())
 }
@@ -30,7 +32,7 @@ pub(crate) fn source_line(alloc: Global, row: &SourceRow) -> Result<Bytes, Memor
     let mut line = line_of(alloc, "source")?;
     push_word(&mut line, row.cluster.as_bytes())?;
     push_word(&mut line, hop_word(row.hop).as_bytes())?;
-    push_revision(alloc, &mut line, row.held, row.revision)?;
+    push_revision(&mut line, row.held, row.revision)?;
     Ok(line)
 }
 
@@ -59,11 +61,8 @@ pub(crate) fn identity_line(alloc: Global, row: &IdentityRow) -> Result<Bytes, M
 {
     let mut line = line_of(alloc, "identity")?;
     push_word(&mut line, row.cluster.as_bytes())?;
-    push_word(&mut line, row.number.to_string(alloc)?.as_bytes())?;
-    push_word(
-        &mut line,
-        labels_word(alloc, row.labels.as_slice())?.as_slice(),
-    )?;
+    push_number(&mut line, u64::from(row.number))?;
+    push_labels(alloc, &mut line, row.labels.as_slice())?;
     line.extend_from_slice("\n".as_bytes())?;
     Ok(line)
 }
@@ -74,10 +73,10 @@ pub(crate) fn address_line(alloc: Global, row: &AddressRow) -> Result<Bytes, Mem
     let mut line = line_of(alloc, "address")?;
     push_word(&mut line, write_ip(alloc, row.ip)?.as_slice())?;
     push_word(&mut line, row.cluster.as_bytes())?;
-    push_word(&mut line, row.identity.to_string(alloc)?.as_bytes())?;
+    push_number(&mut line, u64::from(row.identity))?;
     push_word(&mut line, address_or_none(alloc, row.host)?.as_slice())?;
-    push_word(&mut line, text_or_none(alloc, &row.namespace)?.as_slice())?;
-    push_word(&mut line, text_or_none(alloc, &row.pod)?.as_slice())?;
+    push_text_or_none(alloc, &mut line, &row.namespace)?;
+    push_text_or_none(alloc, &mut line, &row.pod)?;
     line.extend_from_slice("\n".as_bytes())?;
     Ok(line)
 }
@@ -111,7 +110,7 @@ pub(crate) fn reject_line(alloc: Global, row: &RejectRow) -> Result<Bytes, Memor
 {
     let mut line = line_of(alloc, "reject")?;
     push_word(&mut line, row.cluster.as_bytes())?;
-    push_word(&mut line, escape(alloc, row.key.as_slice())?.as_slice())?;
+    push_escaped_word(alloc, &mut line, row.key.as_slice())?;
     push_word(&mut line, why_word(&row.why).as_bytes())?;
     line.extend_from_slice("\n".as_bytes())?;
     Ok(line)

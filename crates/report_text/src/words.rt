@@ -1,10 +1,13 @@
 // The words of a line.
-ghost use Rattle.std.specs.Prelude.{◌≡◌, ◌++◌, IfOk, OnOk, flat_map};
+ghost use Rattle.std.specs.Prelude.{◌≡◌, ◌++◌, IfOk, OnOk, codes, flat_map};
 ghost use Rattle.mesh_records.specs.Labels.{label_text};
+ghost use Rattle.mesh_text.specs.Escapes.{escaped_byte};
 ghost use Rattle.report_text.specs.Words as words;
 
+use crate::escapes::{push_escaped, push_escaped_bytes, push_escaped_word};
 use crate::head::Head;
-use crate::lines::empty_line;
+use crate::lines::push_word;
+use itoa::Buffer;
 use key_paths::{Hop, KeyFault};
 use mesh_base::{Bytes, Memory};
 use mesh_records::{Backend, Label, ReadFault};
@@ -40,33 +43,33 @@ pub(crate) fn typed_address(alloc: Global, address: &(Text, Ip)) -> Result<Bytes
     Ok(word)
 }
 
-fn push_label(text: &mut Bytes, label: &Label) -> Result<(), Memory>
-    ensures { OnOk result (text.new ≡ text.old ++ label_text label.now) }
+/// Puts the label's text behind the line as a word has it.
+#[tactic(auto, using(crate::proofs::LabelWords::label_parts))]
+fn push_escaped_label(alloc: Global, line: &mut Bytes, label: &Label) -> Result<(), Memory>
+    ensures { OnOk result (line.new ≡ line.old ++ flat_map escaped_byte (label_text label.now)) }
 {
-    text.extend_from_slice(label.source.as_slice())?;
-    text.push(b':')?;
-    text.extend_from_slice(label.key.as_slice())?;
-    text.push(b'=')?;
-    text.extend_from_slice(label.value.as_slice())?;
-    text.push(b';')?;
+    push_escaped_bytes(alloc, line, label.source.as_slice())?;
+    line.push(b':')?;
+    push_escaped_bytes(alloc, line, label.key.as_slice())?;
+    line.push(b'=')?;
+    push_escaped_bytes(alloc, line, label.value.as_slice())?;
+    line.push(b';')?;
     Ok(())
 }
 
-fn labels_text(alloc: Global, labels: &[Label]) -> Result<Bytes, Memory>
-    ensures { IfOk result (λ text. text ≡ flat_map label_text labels.now) }
+/// Puts a space and the word for the labels behind the line.
+#[tactic(auto, using(crate::proofs::LabelWords::labels_none))]
+pub(crate) fn push_labels(alloc: Global, line: &mut Bytes, labels: &[Label]) -> Result<(), Memory>
+    ensures { OnOk result (line.new ≡ line.old ++ (codes " " ++ words.labels_word labels.now)) }
 {
-    let mut text = empty_line(alloc)?;
-    for label in labels {
-        push_label(&mut text, label)?;
+    if labels.is_empty() {
+        return push_word(line, "-".as_bytes());
     }
-    Ok(text)
-}
-
-pub(crate) fn labels_word(alloc: Global, labels: &[Label]) -> Result<Vec<u8>, Memory>
-    ensures { IfOk result (λ word. word.items ≡ words.labels_word labels.now) }
-{
-    let text = labels_text(alloc, labels)?;
-    escape(alloc, text.as_slice())
+    line.push(b' ')?;
+    for label in labels {
+        push_escaped_label(alloc, line, label)?;
+    }
+    Ok(())
 }
 
 pub(crate) fn address_or_none(alloc: Global, ip: Option<Ip>) -> Result<Vec<u8>, Memory>
@@ -78,12 +81,17 @@ pub(crate) fn address_or_none(alloc: Global, ip: Option<Ip>) -> Result<Vec<u8>, 
     }
 }
 
-pub(crate) fn text_or_none(alloc: Global, text: &Option<Text>) -> Result<Vec<u8>, Memory>
-    ensures { IfOk result (λ word. word.items ≡ words.text_or_none text.now) }
+/// Puts a space and the word for the text, or for none, behind the line.
+pub(crate) fn push_text_or_none(
+    alloc: Global,
+    line: &mut Bytes,
+    text: &Option<Text>,
+) -> Result<(), Memory>
+    ensures { OnOk result (line.new ≡ line.old ++ (codes " " ++ words.text_or_none text.now)) }
 {
     match text {
-        Some(text) => escape(alloc, text.as_bytes()),
-        None => Ok(Vec::from_slice(alloc, "-".as_bytes())?),
+        Some(text) => push_escaped_word(alloc, line, text.as_bytes()),
+        None => push_word(line, "-".as_bytes()),
     }
 }
 
@@ -92,11 +100,11 @@ pub(crate) fn backend_word(alloc: Global, backend: &Backend) -> Result<Bytes, Me
 {
     let mut word = Bytes::from_vec(write_ip(alloc, backend.ip)?);
     word.extend_from_slice(",".as_bytes())?;
-    word.extend_from_slice(backend.port.to_string(alloc)?.as_bytes())?;
+    word.extend_from_slice(Buffer::new().format(backend.port).as_bytes())?;
     word.extend_from_slice(",".as_bytes())?;
     word.extend_from_slice(backend.protocol.as_bytes())?;
     word.extend_from_slice(",".as_bytes())?;
-    word.extend_from_slice(escape(alloc, backend.port_name.as_bytes())?.as_slice())?;
+    push_escaped(alloc, &mut word, backend.port_name.as_bytes())?;
     Ok(word)
 }
 

@@ -79,6 +79,12 @@ with_config place config t = record t {
   sources = changed_at (λ (s : SourceTold). record s { config = config }) place t.sources;
 }
 
+-- nothing is told of a source any more
+abbrev pub with_nothing : ℕ → Told → Told
+with_nothing place t = record t {
+  sources = changed_at (λ (s : SourceTold). nothing_told s.name) place t.sources;
+}
+
 -- how many rows a change puts
 abbrev pub rows_needed : RecordChange → ℕ
 rows_needed change = if is_some change.new then 1 else 0

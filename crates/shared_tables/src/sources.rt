@@ -52,6 +52,16 @@ impl Source {
         }
     }
 
+    /// Drops its config, its rows and their room; its name stays.
+    pub fn forget(&mut self, alloc: Global)
+        ensures told { source_told self.new ≡ nothing_told self.old.name }
+        ensures room { self.new.room ≡ 0 }
+    {
+        self.config = None;
+        self.rows = IndexMap::new(alloc);
+        self.room = 0;
+    }
+
     /// Makes room for so many more rows; an `Err` changes nothing.
     pub fn reserve(&mut self, more: usize) -> Result<(), Memory>
         ensures told { source_told self.new ≡ source_told self.old }

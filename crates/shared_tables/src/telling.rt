@@ -3,7 +3,7 @@ ghost use Rattle.std.specs.Prelude.{◌≡◌, ◌+◌, ◌-◌, ◌≤◌, ◌<
 ghost use Rattle.std.specs.List.{IsDistinct};
 ghost use Rattle.std.specs.Option.{ForSome};
 ghost use Rattle.mesh_base.specs.Order.{same_bytes};
-ghost use Rattle.shared_tables.specs.Told.{IsChange, IsConfig, changed_at, nothing_told, rooms, rows_needed, told, with_change, with_config};
+ghost use Rattle.shared_tables.specs.Told.{IsChange, IsConfig, changed_at, nothing_told, rooms, rows_needed, told, with_change, with_config, with_nothing};
 
 use crate::change::RecordChange;
 use crate::source::Source;
@@ -79,6 +79,17 @@ impl Tables {
         let source = &mut self.sources[source as usize];
         steps.tick();
         source.replace(old, new);
+    }
+
+    /// Drops all that the tables were told of a source, and what room there is for it. The source
+    /// keeps its name and its place. It takes no memory.
+    pub fn forget(&mut self, alloc: Global, source: u32)
+        requires source { source < length (told self.old).sources }
+        ensures told { told self.new ≡ with_nothing source (told self.old) }
+        ensures rooms { rooms self.new ≡ changed_at (λ room. 0) source (rooms self.old) }
+    {
+        let source = &mut self.sources[source as usize];
+        source.forget(alloc);
     }
 
     /// Makes room for a change of a source's config, for which none is needed.

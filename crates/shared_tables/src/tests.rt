@@ -305,3 +305,28 @@ fn an_address_is_shown_for_the_cluster_with_the_least_number(rt: HostRuntime) ->
     }
     Ok(())
 }
+
+#[test]
+fn a_source_that_is_forgotten_has_no_rows(rt: HostRuntime) -> Result<(), Fail> {
+    let alloc = rt.alloc();
+    let key = "cilium/state/ip/v1/default/10.0.0.5";
+    let west = source(
+        alloc,
+        "west",
+        "{\"id\":2}",
+        &[(key, "{\"IP\":\"10.0.0.5\",\"ID\":131328}")],
+    )?;
+    let mut east = source(
+        alloc,
+        "east",
+        "{\"id\":1}",
+        &[(key, "{\"IP\":\"10.0.0.5\",\"ID\":65792}"), NODE_OF_EAST],
+    )?;
+    east.forget(alloc);
+    let text = report(alloc, 9, vec![in alloc; west, east]?)?;
+    assert_eq!(rt;
+        text.as_slice(),
+        b"address 10.0.0.5 west 131328 \n".as_slice()
+    );
+    Ok(())
+}

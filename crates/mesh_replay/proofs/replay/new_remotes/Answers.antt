@@ -1,4 +1,4 @@
-use Rattle.std.proofs.Common.{◌+◌, ◌<◌, ◌∙◌, ◌∷◌, ◌++◌, [], List, length, take, ap, sym, subst, arith, get_or}
+use Rattle.std.proofs.Common.{◌<◌, ◌∙◌, ◌∷◌, ◌++◌, [], List, length, take, ap, sym, subst, arith, get_or}
 use Rattle.std.proofs.lemmas.List.{take_more}
 use Rattle.scenario_lang.specs.declared.scenario.Remote as said
 use Rattle.mesh_replay.specs.Shown.{AreNew}

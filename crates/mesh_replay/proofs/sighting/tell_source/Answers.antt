@@ -9,7 +9,7 @@ use Rattle.mesh_replay.proofs.sighting.tell_source.Goals as goal
 pub tell_records-requires-clause-first : goal.tell_records-requires-clause-first
 tell_records-requires-clause-first g c =
     let list = c.in_ok-records.ensures in
-    first_of_view c.args.source c.args.remote.now (told c.args.tables.now) list.0 c.in_ok-records.records c.requires.nothing c.requires.own list.1 list.2
+    first_of_view c.args.source c.args.view.now (told c.args.tables.now) list.0 c.in_ok-records.records c.requires.nothing c.requires.own list.1 list.2
 
 pub reserve_readmit-requires-clause-source : goal.reserve_readmit-requires-clause-source
 reserve_readmit-requires-clause-source g c = length-records c.args.source c.in_ok-records.records (told c.args.tables.now) (told c.tell_records.new.tables) c.in_ok-tell_records.ensures c.requires.source
@@ -32,5 +32,5 @@ readmit-requires-clause-config g c =
 pub returns : goal.returns
 returns g c =
     let list = c.in_ok-records.ensures in
-    tells_source c.args.source c.args.remote.now (told c.args.tables.now) (told c.readmit.new.self) list.0 c.in_ok-config.config c.in_ok-records.records c.requires.nothing c.requires.own list.1 list.2 c.in_ok-config.ensures
+    tells_source c.args.source c.args.view.now (told c.args.tables.now) (told c.readmit.new.self) list.0 c.in_ok-config.config c.in_ok-records.records c.requires.nothing c.requires.own list.1 list.2 c.in_ok-config.ensures
     (c.readmit.ensures.told ∙ ap (with_config c.args.source c.in_ok-config.config) (c.reserve_readmit.ensures.told ∙ c.in_ok-tell_records.ensures))

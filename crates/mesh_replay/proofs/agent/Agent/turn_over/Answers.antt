@@ -1,5 +1,4 @@
 use Rattle.std.proofs.Common.{◌∙◌, List, ap, sym, subst, refl, Ok}
-use Rattle.std.proofs.lemmas.Result.{on_ok_weaker}
 use Rattle.flaky_link.specs.Link.{linked}
 use Rattle.reflector.specs.Crossing.{end_of}
 use Rattle.reflector.specs.Turns.{ReadsIf, delivery_of}
@@ -23,20 +22,18 @@ returns-in-None-clause-took g c =
           (follows_none cluster old.contents.history new.contents.history e.keeps.history r (viewed c.args.self.now.view) is.source is.follows t (sym c.delivery.ensures ∙ c.in-None.is));
     }
 
-pub returns-in-Some-clause-took : goal.returns-in-Some-clause-took
-returns-in-Some-clause-took g c =
+pub returns-in_ok-follow-in-Some-clause-took : goal.returns-in_ok-follow-in-Some-clause-took
+returns-in_ok-follow-in-Some-clause-took g c =
     let e = c.in_ok-turn.ensures in
     let t = c.in_ok-turn.turn in
     let old = linked c.args.link.now.state.now (g.S.Store.meaning c.args.link.now.store.now) in
     let new = linked c.turn.new.store.state.now (g.S.Store.meaning c.turn.new.store.store.now) in
-    on_ok_weaker c.follow.result
-    (λ takes. record {
+    record {
       end = end_of t;
       told = told_turn t;
       called = record { crossed = e.crossed; does = does_turn c.args.most c.args.self.now.reader t old new e.answer e.made (λ lost. e.lost (ap Ok lost)); keeps = e.keeps };
       ends = λ cluster r is.
           read_on c.args.most cluster old.contents.history new.contents t r c.args.self.now (record { reader = c.turn.new.self; view = c.follow.new.self }) is e.reader (e.stands r is.stands) (e.advance r is.stands) c.follow.ensures.source
           (follows_some cluster old.contents.history new.contents.history e.keeps.history r (viewed c.args.self.now.view) is.source is.follows t c.in-Some.delivery (viewed c.follow.new.self) (sym c.delivery.ensures ∙ c.in-Some.is)
-          (subst (λ (ranges : List Range). ReadsIf ranges new.contents.history r (delivery_of t)) is.ranges (e.reads r is.stands)) takes);
-    })
-    c.follow.ensures.follows
+          (subst (λ (ranges : List Range). ReadsIf ranges new.contents.history r (delivery_of t)) is.ranges (e.reads r is.stands)) c.in_ok-follow-in-Some.ensures.follows);
+    }

@@ -13,6 +13,7 @@ pub loop-action-init : goal.loop-action-init
 loop-action-init g c =
     let m = g.S.Store.meaning in
     record {
+      told = c.requires.told;
       many = refl;
       goes = λ w has. Goes-none (act_all c.args.actions.now) w (map m c.args.stores.now) (λ n. HasWorld n c.args.self.now (map m c.args.stores.now)) has.contents has;
     }
@@ -29,8 +30,9 @@ loop-action-preserved g c =
     let w₀ = c.requires.world in
     let now = c.loop-action.invariant.goes w₀.0 w₀.1 in
     record {
-      many = many_same c.action-item.result c.loop-action.self c.act.new.self (map m c.loop-action.stores) (map m c.act.new.stores) (now.new, now.shows) c.in_ok-act.ensures ∙ c.loop-action.invariant.many;
-      goes = λ w has. act_next c.args.actions.now c.loop-action.action-index c.action-item.result w c.args.self.now c.loop-action.self c.act.new.self (map m c.args.stores.now) (map m c.loop-action.stores) (map m c.act.new.stores) c.loop-action-test.true c.action-item.is (c.loop-action.invariant.goes w has) c.in_ok-act.ensures;
+      told = c.in_ok-act.ensures.told;
+      many = many_same c.action-item.result c.loop-action.self c.act.new.self (map m c.loop-action.stores) (map m c.act.new.stores) (now.new, now.shows) c.in_ok-act.ensures.done ∙ c.loop-action.invariant.many;
+      goes = λ w has. act_next c.args.actions.now c.loop-action.action-index c.action-item.result w c.args.self.now c.loop-action.self c.act.new.self (map m c.args.stores.now) (map m c.loop-action.stores) (map m c.act.new.stores) c.loop-action-test.true c.action-item.is (c.loop-action.invariant.goes w has) c.in_ok-act.ensures.done;
     }
 
 pub returns : goal.returns

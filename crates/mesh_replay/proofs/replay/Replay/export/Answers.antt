@@ -1,7 +1,9 @@
-use Rattle.std.proofs.Common.{◌+◌, refl, arith}
+use Rattle.std.proofs.Common.{ap, ◌+◌, refl, arith}
 use Rattle.std.specs.Vec.{with_item}
 use Rattle.mesh_replay.proofs.Exported.{done_exported}
 use Rattle.mesh_replay.proofs.Worlds.{writable_at}
+use Rattle.mesh_replay.specs.declared.agent.Agent.{Agent}
+use Rattle.mesh_replay.proofs.Sightings.{kept_tables}
 use Rattle.mesh_replay.proofs.replay.Replay.export.Goals as goal
 
 pub export-requires : goal.export-requires
@@ -13,4 +15,5 @@ returns g c = record {
       (record c.args.self.now { remotes = with_item c.args.self.now.remotes c.args.remote c.export.new.self })
       c.index_mut.result.now c.export.new.self c.requires.remote c.index_mut.ensures.value
       (record { local = refl; number = refl; remotes = refl; reports = refl; text = refl }) c.args.most c.export.result c.export.ensures.writes;
+  told = kept_tables c.args.self.now.number c.args.self.now.remotes.items c.args.self.now.sighting c.args.remote c.index_mut.result.now c.export.new.self c.index_mut.ensures.value (ap (λ (a : Agent). a.view) c.export.ensures.agent) c.requires.told;
 }

@@ -1,5 +1,7 @@
 use Rattle.std.proofs.Common.{◌≡◌, length}
+use Rattle.std.specs.List.{AllByRecursion}
 use Rattle.store_api.specs.Spans.{unread}
+use Rattle.mesh_replay.specs.Rows.{IsOwnView, IsTold}
 use Rattle.mesh_replay.specs.World.{with_reader}
 use Rattle.mesh_replay.proofs.Changes.{AreFront}
 use Rattle.mesh_replay.proofs.replay.Replay.restart_agent.Given as goal
@@ -11,5 +13,7 @@ invariant-loop-place l = record {
   number : l.self.number ≡ l.fn.self.number;
   reports : l.self.reports ≡ l.fn.self.reports;
   text : l.self.text ≡ l.fn.self.text;
+  own : AllByRecursion IsOwnView l.self.remotes.items;
+  told : IsTold l.self;
   front : AreFront (with_reader (λ r. unread)) l.place l.fn.self.remotes.items l.self.remotes.items;
 }
