@@ -187,7 +187,8 @@ impl Sighting {
         requires few { length remotes.now ≤ 255 }
         requires place { place < length remotes.now }
         requires tables { (number : ℕ) × HasTables number remotes.now self.old }
-        ensures { OnOk result ((number : ℕ) → HasTables number remotes.now self.old → HasTables number remotes.now self.new) }
+        ensures tables { OnOk result ((number : ℕ) → HasTables number remotes.now self.old → HasTables number remotes.now self.new) }
+        ensures marked { OnOk result (self.new.told.items ≡ set self.old.told.items place true) }
     {
         let mut steps = Steps::<L>::new(blank);
         self.tell_with(alloc, remotes, place, &mut steps)

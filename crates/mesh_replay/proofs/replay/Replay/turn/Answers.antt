@@ -43,7 +43,7 @@ returns-in_ok-tell-clause-done g c =
 pub returns-in_ok-tell-clause-told : goal.returns-in_ok-tell-clause-told
 returns-in_ok-tell-clause-told g c =
     subst (λ (rs : List Remote). HasTables c.args.self.now.number rs c.tell.new.self) c.as_slice.ensures.value
-    (c.in_ok-tell.ensures c.args.self.now.number
+    (c.in_ok-tell.ensures.tables c.args.self.now.number
     (subst (λ (rs : List Remote). HasTables c.args.self.now.number rs c.forget.new.self) (sym c.as_slice.ensures.value)
     (changed_tables c.args.self.now.number c.args.self.now.remotes.items c.args.self.now.sighting c.forget.new.self c.args.remote c.index_mut.result.now c.turn.new.self c.forget.ensures.tables c.forget.ensures.told c.index_mut.ensures.value c.turn.ensures.source c.requires.told)))
 
