@@ -15,8 +15,8 @@ use Rattle.key_paths.specs.declared.hop.Hop.TheVariants.{State}
 use Rattle.key_paths.specs.declared.key.Key.{Key}
 use Rattle.key_paths.specs.declared.key.Key.TheVariants as names
 use Rattle.key_paths.specs.Paths.{kinds, config_key, mark_key, record_ranges}
+use Rattle.record_values.specs.Values.{Config}
 use Rattle.mesh_records.specs.Trees.{config_tree}
-use Rattle.mesh_records.specs.Values.{Config}
 use Rattle.record_check.specs.Limits.{last_cluster}
 use Rattle.record_check.specs.declared.limit.Limit.TheVariants.{Small}
 use Rattle.serde_json.specs.Written.{compact_text}

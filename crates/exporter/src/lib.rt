@@ -21,6 +21,7 @@
 //! `exporter` has the calls, `queue` what waits, `item` what an item is, `fault` why a call was
 //! refused, and `laws` what holds of every run.
 //! It knows nothing of links, readers or caches.
+//! Its tests are the module `exports` of the crate `store_tests`.
 #![tactic(auto)]
 
 mod declared;
@@ -29,8 +30,6 @@ mod fault;
 mod item;
 mod laws;
 mod queue;
-#[cfg(test)]
-mod tests;
 mod texts;
 
 pub use exporter::{Exported, Exporter};

@@ -4,9 +4,10 @@ ghost use Rattle.key_paths.specs.Paths as paths;
 ghost use Rattle.exporter.specs.State.{config_value, place};
 
 use mesh_base::{Bytes, Memory};
-use mesh_records::{ClusterConfig, write_config};
+use mesh_records::write_config;
 use mesh_text::{ClusterName, Kind};
 use record_check::Limit;
+use record_values::ClusterConfig;
 use std::alloc::Global;
 
 /// The place of a kind in their order.

@@ -5,6 +5,7 @@
 //! `write` are a key from bytes and back, `paths` has the ranges of a cluster, and `mapping` its
 //! keys at the other hop. `laws` says what these have to do with each other.
 //! It knows nothing of values, and a store is for it a list of ranges.
+//! Its tests are the module `keys` of the crate `text_tests`.
 #![tactic(auto)]
 
 mod fault;
@@ -16,8 +17,6 @@ mod mapping;
 mod parts;
 mod paths;
 mod read;
-#[cfg(test)]
-mod tests;
 mod words;
 mod write;
 

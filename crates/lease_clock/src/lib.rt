@@ -3,12 +3,11 @@
 //! `leases` has the table of the live leases with its calls, `tournament` how their least deadline
 //! is kept at hand, and `laws` what holds of the order in which leases lapse.
 //! It knows nothing of keys, stores or threads.
+//! Its tests are the module `leases` of the crate `store_tests`.
 #![tactic(auto)]
 
 mod laws;
 mod leases;
-#[cfg(test)]
-mod tests;
 mod tournament;
 
 pub use laws::due_leases_in_order;

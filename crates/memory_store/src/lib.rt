@@ -5,6 +5,7 @@
 //! what was done, which contracts alone see, `journal` the revisions of a journal, `store` the store
 //! with its history, and `laws` what holds of every history.
 //! It knows nothing of clusters, key paths or threads.
+//! Its tests are the module `stores` of the crate `store_tests`.
 #![tactic(auto)]
 
 mod attached;
@@ -15,8 +16,6 @@ mod listing;
 mod live;
 mod log;
 mod store;
-#[cfg(test)]
-mod tests;
 mod watch;
 
 pub use laws::{commits_keep_form, lapses_keep_form};

@@ -3,14 +3,13 @@
 //! `bytes` and `items` are the two list types of the public surface, `memory` is the answer for
 //! want of memory, and `count` is a number that contracts alone see.
 //! It knows nothing of keys, stores or clusters.
+//! Its tests are the module `lists` of the crate `text_tests`.
 #![tactic(auto)]
 
 mod bytes;
 mod count;
 mod items;
 mod memory;
-#[cfg(test)]
-mod tests;
 
 pub use bytes::Bytes;
 pub use count::Count;

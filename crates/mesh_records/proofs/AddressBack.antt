@@ -7,9 +7,9 @@ use Rattle.serde_json.specs.Find.{get}
 use Rattle.mesh_text.specs.declared.ip.Ip.{Ip}
 use Rattle.mesh_text.specs.Numbers.{number_of}
 use Rattle.mesh_text.specs.Addresses.{address_of, address_text, ipv4_of, ipv6_of}
-use Rattle.mesh_records.specs.Values.{Address}
-use Rattle.mesh_records.specs.Forms.{optional, some_text, some_address, address_or_empty}
-use Rattle.mesh_records.specs.Address.{address_record_of}
+use Rattle.record_values.specs.Values.{Address}
+use Rattle.record_reading.specs.Forms.{optional, some_text, some_address, address_or_empty}
+use Rattle.record_reading.specs.Address.{address_record_of}
 use Rattle.mesh_records.specs.Trees.{address_tree, address_string, whole}
 
 no_empty_address : address_of [] ≡ None

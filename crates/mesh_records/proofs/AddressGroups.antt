@@ -13,10 +13,10 @@ use Rattle.mesh_text.specs.Addresses.{address_text}
 use Rattle.mesh_text.specs.declared.ip.Ip.{Ip}
 use Rattle.mesh_text.specs.declared.ip.Ip.TheVariants.{V4, V6}
 use Rattle.mesh_text.specs.Laws.{ip_cmp}
-use Rattle.mesh_records.specs.Values.{BackendPort}
-use Rattle.mesh_records.specs.Backends.{backend_order, AreInOrder, ArePortsOf}
+use Rattle.record_values.specs.Values.{BackendPort}
+use Rattle.record_values.specs.Backends.{backend_order, AreInOrder, ArePortsOf}
 use Rattle.mesh_records.specs.Trees.{by_address, named_port, object_of, ports_under_address, put_all, same_address, with_backend}
-use Rattle.mesh_records.proofs.Orders.{Group, all_ports, append_all, same_ip, tied_ip}
+use Rattle.record_reading.proofs.Orders.{Group, all_ports, append_all, same_ip, tied_ip}
 use Rattle.mesh_records.proofs.PortsBack.{names}
 
 pub ip_total : IsTotalOrder ip_cmp

@@ -12,10 +12,10 @@ use Rattle.serde_json.specs.Data.{Data, Members, member, no_members, put}
 use Rattle.mesh_text.specs.declared.ip.Ip.{Ip}
 use Rattle.mesh_text.specs.Laws.{ip_cmp}
 use Rattle.mesh_text.specs.Addresses.{address_of, address_text}
-use Rattle.mesh_records.specs.Values.{BackendPort}
-use Rattle.mesh_records.specs.Service.{addresses_of, ports_of}
+use Rattle.record_values.specs.Values.{BackendPort}
+use Rattle.record_reading.specs.Service.{addresses_of, ports_of}
 use Rattle.mesh_records.specs.Trees.{named_port, object_of, ports_under_address, put_all}
-use Rattle.mesh_records.proofs.Orders.{Group, same_ip, tied_ip}
+use Rattle.record_reading.proofs.Orders.{Group, same_ip, tied_ip}
 use Rattle.mesh_records.proofs.AddressGroups.{ip_total}
 
 abbrev Ports : Type 0

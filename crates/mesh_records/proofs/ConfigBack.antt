@@ -1,8 +1,8 @@
 -- A config that was written is read back.
 use Rattle.std.proofs.Common.{◌≡◌, ◌<◌, ◌^◌, ◌==◌, true, false, Ok, refl, arith, nat_lt}
 use Rattle.std.proofs.lemmas.Bool.{lt-ltb, ne_eqb}
-use Rattle.mesh_records.specs.Values.{Config}
-use Rattle.mesh_records.specs.Config.{config_of}
+use Rattle.record_values.specs.Values.{Config}
+use Rattle.record_reading.specs.Config.{config_of}
 use Rattle.mesh_records.specs.Trees.{config_tree}
 
 pub config_reads_back : (c : Config) → c.id < 2 ^ 32 → 0 < c.max_connected → c.max_connected < 2 ^ 32 → config_of (config_tree c) ≡ Ok c

@@ -3,12 +3,7 @@ pub mod AddressBack
 pub mod ConfigBack
 pub mod Depths
 pub mod NodeBack
-pub mod Cuts
-pub mod Fronts
-pub mod LabelGrammar
-pub mod LabelSteps
-pub mod LabelsBack
-pub mod Orders
+pub mod LabelTexts
 pub mod PortsBack
 pub mod AddressGroups
 pub mod AddressesBack

@@ -7,9 +7,9 @@ use Rattle.serde_json.specs.View.{items_of}
 use Rattle.serde_json.specs.Written.{has_float}
 use Rattle.mesh_text.specs.declared.ip.Ip.{Ip}
 use Rattle.mesh_text.specs.Addresses.{address_of, address_text}
-use Rattle.mesh_records.specs.declared.records.Node.{Node}
-use Rattle.mesh_records.specs.Forms.{each}
-use Rattle.mesh_records.specs.Node.{node_of, node_address}
+use Rattle.record_values.specs.declared.records.Node.{Node}
+use Rattle.record_reading.specs.Forms.{each}
+use Rattle.record_reading.specs.Node.{node_of, node_address}
 use Rattle.mesh_records.specs.Trees.{node_tree, node_address_tree}
 use Rattle.mesh_records.proofs.Depths.{IsPlain, items_plain}
 

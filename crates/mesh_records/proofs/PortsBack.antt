@@ -8,9 +8,9 @@ use Rattle.std.specs.Ordering.{ordering_reverse}
 use Rattle.std.specs.Cmp.Lexicographic.{slice_cmp}
 use Rattle.serde_json.specs.Data.{Members, member, no_members, put}
 use Rattle.mesh_text.specs.declared.ip.Ip.{Ip}
-use Rattle.mesh_records.specs.Values.{BackendPort}
-use Rattle.mesh_records.specs.Backends.{ArePortsOf, IsBackend}
-use Rattle.mesh_records.specs.Service.{port_of, ports_of}
+use Rattle.record_values.specs.Values.{BackendPort}
+use Rattle.record_values.specs.Backends.{ArePortsOf, IsBackend}
+use Rattle.record_reading.specs.Service.{port_of, ports_of}
 use Rattle.mesh_records.specs.Trees.{named_port, port_tree, put_all}
 
 abbrev pub names : List BackendPort → List (List ℕ)

@@ -7,13 +7,13 @@ use Rattle.serde_json.specs.Written.{has_float}
 use Rattle.mesh_text.specs.declared.ip.Ip.{Ip}
 use Rattle.mesh_text.specs.Addresses.{address_of, address_text}
 use Rattle.mesh_text.proofs.CallerLemmas.{address_of-address_text}
-use Rattle.mesh_records.specs.declared.fault.ReadFault.{ReadFault}
-use Rattle.mesh_records.specs.Values.{BackendPort, Service}
-use Rattle.mesh_records.specs.Judgement.{◌>>=◌}
-use Rattle.mesh_records.specs.Backends.{AreInOrder, IsBackend}
-use Rattle.mesh_records.specs.Service.{backends, service_of}
+use Rattle.record_values.specs.declared.fault.ReadFault.{ReadFault}
+use Rattle.record_values.specs.Values.{BackendPort, Service}
+use Rattle.record_values.specs.Backends.{AreInOrder, IsBackend}
+use Rattle.record_reading.specs.Judgement.{◌>>=◌}
+use Rattle.record_reading.specs.Service.{backends, service_of}
 use Rattle.mesh_records.specs.Trees.{by_address, named_port, object_of, ports_under_address, service_tree}
-use Rattle.mesh_records.proofs.Orders.{Group, all_ports}
+use Rattle.record_reading.proofs.Orders.{Group, all_ports}
 use Rattle.mesh_records.proofs.AddressGroups.{IsPart, grouped}
 use Rattle.mesh_records.proofs.PortsBack.{ports_read_back}
 use Rattle.mesh_records.proofs.AddressesBack.{IsRead, addresses_read_back}

@@ -6,9 +6,9 @@ use Rattle.serde_json.specs.Data.{Data, depth}
 use Rattle.serde_json.specs.Read.{read}
 use Rattle.serde_json.specs.Find.{as_object}
 use Rattle.serde_json.specs.Written.{compact_text, has_float}
-use Rattle.mesh_records.specs.declared.fault.ReadFault.{ReadFault}
-use Rattle.mesh_records.specs.declared.fault.ReadFault.TheVariants.{Shape}
-use Rattle.mesh_records.specs.Judgement.{tree_of, judged, judged_tree}
+use Rattle.record_values.specs.declared.fault.ReadFault.{ReadFault}
+use Rattle.record_values.specs.declared.fault.ReadFault.TheVariants.{Shape}
+use Rattle.record_reading.specs.Judgement.{tree_of, judged, judged_tree}
 
 pub tree_read : (bytes : List ℕ) (d : Data) → IsUtf8 bytes → read bytes ≡ Some d → tree_of bytes ≡ Some d
 tree_read bytes d utf8 e = ap (λ (b : Bool). cond b (read bytes) None) (is_utf8-from_IsUtf8 bytes utf8) ∙ e

@@ -1,14 +1,2 @@
-pub mod Values
-pub mod Judgement
-pub mod Forms
-pub mod Config
-pub mod Node
-pub mod Address
-pub mod Labels
-pub mod Identity
-pub mod Laws
-pub mod Backends
-pub mod Service
-pub mod Record
 pub mod Trees
 pub mod Written

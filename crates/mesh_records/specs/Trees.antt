@@ -5,9 +5,9 @@ use Rattle.serde_json.specs.Data.{Data, boolean, number, unsigned, string, array
 use Rattle.serde_json.specs.View.{items_of}
 use Rattle.mesh_text.specs.declared.ip.Ip.{Ip}
 use Rattle.mesh_text.specs.Addresses.{address_text}
-use Rattle.mesh_records.specs.declared.records.Node.{Node}
+use Rattle.record_values.specs.declared.records.Node.{Node}
 use Rattle.mesh_text.specs.Laws.{ip_cmp}
-use Rattle.mesh_records.specs.Values.{Config, Address, BackendPort, Service}
+use Rattle.record_values.specs.Values.{Config, Address, BackendPort, Service}
 
 abbrev pub whole : ℕ → Data
 whole n = number (unsigned n)

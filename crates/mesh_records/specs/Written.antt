@@ -4,9 +4,9 @@ use Rattle.std.specs.List.{flat_map}
 use Rattle.serde_json.specs.Written.{compact_text}
 use Rattle.mesh_text.specs.declared.kind.Kind.{Kind}
 use Rattle.mesh_text.specs.declared.kind.Kind.TheVariants.{Nodes, Services, Identities, Addresses}
-use Rattle.mesh_records.specs.declared.records.Record.{Record}
-use Rattle.mesh_records.specs.declared.records.Record.TheVariants.{Node, Service, Identity, Address}
-use Rattle.mesh_records.specs.Labels.{label_text}
+use Rattle.record_values.specs.declared.records.Record.{Record}
+use Rattle.record_values.specs.declared.records.Record.TheVariants.{Node, Service, Identity, Address}
+use Rattle.record_values.specs.Labels.{label_text}
 use Rattle.mesh_records.specs.Trees.{address_tree, node_tree, service_tree}
 
 abbrev pub kind_of : Record → Kind

@@ -1,34 +1,20 @@
-//! The values under the keys of a cluster mesh, read by a profile of fields and written again.
+//! The values under the keys of a cluster mesh, written so that they are read back.
 //!
-//! `records` has what a value says, `fault` why it is refused, `tree` the step from bytes to JSON,
-//! and `forms` what a single member must be. `config`, `node`, `address` and `service` have the
-//! fields of one kind of value each, `identity` the labels of an identity, `laws` what these are
-//! apart from how they are read, and `read` picks the kind. `trees` and `service_trees` build the JSON that is written, and `write` has its bytes.
+//! `trees` and `service_trees` build the JSON that is written, and `write` has its bytes. What a
+//! value says and how it is read are named here too.
 //! It knows nothing of keys, stores or which cluster a value belongs to.
+//! Its tests are the module `values` of the crate `record_tests`.
 #![tactic(auto)]
 
-mod address;
-mod config;
-mod fault;
-mod forms;
-mod identity;
-mod laws;
-mod node;
-mod read;
-mod records;
-mod service;
 mod service_trees;
-#[cfg(test)]
-mod tests;
-mod tree;
 mod trees;
 mod write;
 
-pub use config::read_config;
-pub use fault::ReadFault;
-pub use laws::{finds_first_unreadable_label, reads_label_texts};
-pub use read::read_record;
-pub use records::{
-    AddressRecord, Backend, ClusterConfig, IdentityRecord, Label, Node, Record, ServiceRecord,
+pub use record_reading::{
+    finds_first_unreadable_label, read_config, read_record, reads_label_texts,
+};
+pub use record_values::{
+    AddressRecord, Backend, ClusterConfig, IdentityRecord, Label, Node, ReadFault, Record,
+    ServiceRecord,
 };
 pub use write::{write_config, write_record};

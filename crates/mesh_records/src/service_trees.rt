@@ -2,13 +2,13 @@
 ghost use Rattle.std.specs.Prelude.{◌≡◌, ◌<◌, ◌^◌, IfOk, map};
 ghost use Rattle.std.specs.List.{AllByRecursion};
 ghost use Rattle.serde_json.specs.View.{view};
-ghost use Rattle.mesh_records.specs.Backends.{AreInOrder, IsBackend};
+ghost use Rattle.record_values.specs.Backends.{AreInOrder, IsBackend};
 ghost use Rattle.mesh_records.specs.Trees.{by_address, named_port, object_of, port_tree, ports_under_address, put_all, same_address, service_tree, whole};
 
-use crate::records::{Backend, ServiceRecord};
 use crate::trees::{fits, id_value, ip_text};
 use mesh_base::Memory;
 use mesh_text::Ip;
+use record_values::{Backend, ServiceRecord};
 use serde_json::{Map, Value};
 use std::alloc::Global;
 

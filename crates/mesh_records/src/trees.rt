@@ -7,9 +7,9 @@ ghost use Rattle.mesh_text.specs.Addresses.{address_of, address_text};
 ghost use Rattle.mesh_text.specs.Laws.{IsIp};
 ghost use Rattle.mesh_records.specs.Trees.{address_string, address_tree, node_address_tree, node_tree, put_some, whole};
 
-use crate::records::{AddressRecord, Node};
 use mesh_base::Memory;
 use mesh_text::{Ip, Text, reads_written_address, write_ip};
+use record_values::{AddressRecord, Node};
 use serde_json::{Map, Value};
 use std::alloc::Global;
 

@@ -3,23 +3,23 @@ ghost use Rattle.std.specs.List.{All, flat_map};
 ghost use Rattle.serde_json.specs.Data.{depth};
 ghost use Rattle.serde_json.specs.View.{view};
 ghost use Rattle.serde_json.specs.Written.{compact_text, has_float};
-ghost use Rattle.mesh_records.specs.Config.{config_of};
-ghost use Rattle.mesh_records.specs.Identity.{identity_of};
-ghost use Rattle.mesh_records.specs.Judgement.{judged, tree_of};
-ghost use Rattle.mesh_records.specs.Labels.{IsLabel, label_text};
-ghost use Rattle.mesh_records.specs.Address.{address_record_of};
-ghost use Rattle.mesh_records.specs.Node.{node_of};
-ghost use Rattle.mesh_records.specs.Record.{record_of};
-ghost use Rattle.mesh_records.specs.Service.{service_of};
+ghost use Rattle.record_values.specs.Labels.{IsLabel, label_text};
+ghost use Rattle.record_reading.specs.Config.{config_of};
+ghost use Rattle.record_reading.specs.Identity.{identity_of};
+ghost use Rattle.record_reading.specs.Judgement.{judged, tree_of};
+ghost use Rattle.record_reading.specs.Address.{address_record_of};
+ghost use Rattle.record_reading.specs.Node.{node_of};
+ghost use Rattle.record_reading.specs.Record.{record_of};
+ghost use Rattle.record_reading.specs.Service.{service_of};
 ghost use Rattle.mesh_records.specs.Trees.{address_tree, config_tree, node_tree, service_tree};
 ghost use Rattle.mesh_records.specs.Written.{kind_of, text_of};
 
-use crate::records::{
-    AddressRecord, ClusterConfig, IdentityRecord, Label, Node, Record, ServiceRecord,
-};
 use crate::service_trees::service_value;
 use crate::trees::{address_value, node_value};
 use mesh_base::Memory;
+use record_values::{
+    AddressRecord, ClusterConfig, IdentityRecord, Label, Node, Record, ServiceRecord,
+};
 use serde_json::{Value, json};
 use std::alloc::{AllocError, Global};
 

@@ -1,54 +1,12 @@
-//! Replays scenarios of a mesh of clusters over stores in memory, and writes reports of what the agent has sighted.
+//! Replays the scenario on standard input over fresh stores in memory, and writes its reports to standard output.
 //!
-//! `status` says how the program ends. `streams`, `input` and `telling` read a scenario and tell why a
-//! text is none. `remote` has what is kept of a remote cluster, `declaring` what its exporter declares,
-//! `exporters` and `agent` the calls that are made on its store through links, and `stores` those that are
-//! made straight. `replay` has what is kept of all remotes, `acting` what each line does, `sighting` and
-//! `reports` a report. `laws` says what holds of every turn, and `top` is the whole program but for its
-//! adapters, which are here.
+//! The replay is the crate `scenario_replay`; here are its adapters over the process.
 #![tactic(auto)]
 
-mod acting;
-mod agent;
-mod declaring;
-mod exporters;
-mod input;
-mod laws;
-mod remote;
-mod replay;
-mod reports;
-mod sighting;
-mod status;
-mod stores;
-mod streams;
-mod telling;
-#[cfg(test)]
-mod tests;
-mod top;
-
-ghost use Rattle.std.specs.Prelude.{◌≡◌, length, map, All, IfOk};
-ghost use Rattle.mesh_replay.specs.Goes.{IsOpen};
-
-use memory_store::MemoryStore;
-use status::Status;
-use std::alloc::Global;
+use scenario_replay::{Status, fresh_stores, mesh_steps};
 use std::process::ExitCode;
 use std::{env, io};
-use store_api::{Memory, ReaderSource, Store, WriterSink};
-use top::mesh_steps;
-
-/// The local store and the stores of 255 remotes, all fresh.
-fn fresh_stores(alloc: Global) -> Result<Vec<MemoryStore>, Memory>
-    ensures many { IfOk result (λ v. length v.items ≡ 256) }
-    ensures open { IfOk result (λ v. All IsOpen (map ⟦<MemoryStore as Store>⟧.meaning v.items)) }
-{
-    let mut stores = Vec::with_capacity(alloc, 256)?;
-    for place in 0..256usize {
-        let _ = place;
-        stores.push(MemoryStore::new(alloc))?;
-    }
-    Ok(stores)
-}
+use store_api::{ReaderSource, WriterSink};
 
 fn status_number(status: Status) -> u8 {
     match status {

@@ -4,6 +4,7 @@
 //! contracts see as its bytes. `numbers`, `names`, `escapes` and `addresses` read and write one
 //! grammar each, and `laws` says what reading and writing have to do with each other.
 //! It knows nothing of keys, records or stores.
+//! Its tests are the module `texts` of the crate `text_tests`.
 #![tactic(auto)]
 
 mod addresses;
@@ -13,8 +14,6 @@ mod kind;
 mod laws;
 mod names;
 mod numbers;
-#[cfg(test)]
-mod tests;
 mod text;
 
 pub use addresses::{read_ip, write_ip};

@@ -1,7 +1,7 @@
 -- Checking a pair in two steps.
 use Rattle.std.proofs.Common.{◌≡◌, ℕ, List, [], ◌∷◌, ◌++◌, Option, None, Some, Result, Ok, Err, refl, ◌∙◌}
 use Rattle.key_paths.specs.declared.key.Key.{Key}
-use Rattle.mesh_records.specs.declared.records.Record.{Record}
+use Rattle.record_values.specs.declared.records.Record.{Record}
 use Rattle.record_check.specs.declared.limit.Limit.{Limit}
 use Rattle.record_check.specs.declared.fault.Fault.{Fault}
 use Rattle.record_check.specs.Faults.{Row, first_fault, unless}

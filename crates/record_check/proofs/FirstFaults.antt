@@ -4,12 +4,12 @@ use Rattle.std.specs.Result.{result_err}
 use Rattle.mesh_text.specs.declared.kind.Kind.{Kind}
 use Rattle.key_paths.specs.declared.key.Key.{Key}
 use Rattle.key_paths.specs.declared.fault.KeyFault.{KeyFault}
-use Rattle.mesh_records.specs.declared.fault.ReadFault.{ReadFault}
-use Rattle.mesh_records.specs.declared.records.Record.{Record}
-use Rattle.mesh_records.specs.Record.{record_of}
-use Rattle.mesh_records.specs.Values.{Config}
-use Rattle.mesh_records.specs.Config.{config_of}
-use Rattle.mesh_records.specs.Judgement.{judged}
+use Rattle.record_values.specs.declared.fault.ReadFault.{ReadFault}
+use Rattle.record_values.specs.declared.records.Record.{Record}
+use Rattle.record_values.specs.Values.{Config}
+use Rattle.record_reading.specs.Record.{record_of}
+use Rattle.record_reading.specs.Config.{config_of}
+use Rattle.record_reading.specs.Judgement.{judged}
 use Rattle.record_check.specs.declared.limit.Limit.{Limit}
 use Rattle.record_check.specs.declared.fault.Fault.{Fault}
 use Rattle.record_check.specs.Faults.{Row, first_fault, unless, size_row, read_row}

@@ -2,11 +2,11 @@
 use Rattle.std.proofs.Common.{◌≡◌, ℕ, List, Result, Ok, Err, refl, sym, ap, ◌∙◌}
 use Rattle.mesh_text.specs.declared.kind.Kind.{Kind}
 use Rattle.mesh_text.specs.declared.kind.Kind.TheVariants as kind
-use Rattle.mesh_records.specs.declared.fault.ReadFault.{ReadFault}
-use Rattle.mesh_records.specs.declared.records.Record.{Record}
-use Rattle.mesh_records.specs.declared.records.Record.TheVariants as found
-use Rattle.mesh_records.specs.Judgement.{◌>>=◌}
-use Rattle.mesh_records.specs.Record.{record_of}
+use Rattle.record_values.specs.declared.fault.ReadFault.{ReadFault}
+use Rattle.record_values.specs.declared.records.Record.{Record}
+use Rattle.record_values.specs.declared.records.Record.TheVariants as found
+use Rattle.record_reading.specs.Judgement.{◌>>=◌}
+use Rattle.record_reading.specs.Record.{record_of}
 use Rattle.record_check.specs.Reading.{kind_of_record}
 
 -- what is read is what was made of something

@@ -1,8 +1,8 @@
 -- An address with a reserved identity is of no cluster alone.
 use Rattle.std.proofs.Common.{◌≡◌, ℕ, ◌<◌, List, None, refl, arith}
 use Rattle.key_paths.specs.declared.key.Key.{Key}
-use Rattle.mesh_records.specs.declared.records.Record.TheVariants as found
-use Rattle.mesh_records.specs.Values.{Address}
+use Rattle.record_values.specs.declared.records.Record.TheVariants as found
+use Rattle.record_values.specs.Values.{Address}
 use Rattle.record_check.specs.declared.limit.Limit.{Limit}
 use Rattle.record_check.specs.Limits.{first_own_identity, cluster_owning}
 use Rattle.record_check.specs.Judging.{judgement}

@@ -3,10 +3,10 @@
 -- `maxConnectedClusters`, which all clusters of a mesh have alike).
 use Rattle.std.specs.Prelude.{ℕ, ◌==◌, not, List, [], ◌∷◌, Option, Result, Ok, Err}
 use Rattle.std.specs.Result.{result_ok}
-use Rattle.mesh_records.specs.declared.fault.ReadFault.{ReadFault}
-use Rattle.mesh_records.specs.Values.{Config}
-use Rattle.mesh_records.specs.Config.{config_of}
-use Rattle.mesh_records.specs.Judgement.{judged}
+use Rattle.record_values.specs.declared.fault.ReadFault.{ReadFault}
+use Rattle.record_values.specs.Values.{Config}
+use Rattle.record_reading.specs.Config.{config_of}
+use Rattle.record_reading.specs.Judgement.{judged}
 use Rattle.record_check.specs.declared.limit.Limit.{Limit}
 use Rattle.record_check.specs.declared.fault.Fault.{Fault}
 use Rattle.record_check.specs.declared.fault.Fault.TheVariants as fault

@@ -2,8 +2,8 @@
 -- control plane's own, as is the size of a value (etcd's own limit of a request is larger).
 use Rattle.std.specs.Prelude.{◌≡◌, ℕ, Bool, false, not, List, [], ◌∷◌, length, nat_le, Option, None, Some, Result, Ok, Err, if◌then◌else◌}
 use Rattle.key_paths.specs.declared.fault.KeyFault.TheVariants as key_fault
-use Rattle.mesh_records.specs.declared.fault.ReadFault.{ReadFault}
-use Rattle.mesh_records.specs.declared.fault.ReadFault.TheVariants as read_fault
+use Rattle.record_values.specs.declared.fault.ReadFault.{ReadFault}
+use Rattle.record_values.specs.declared.fault.ReadFault.TheVariants as read_fault
 use Rattle.record_check.specs.declared.fault.Fault.{Fault}
 use Rattle.record_check.specs.declared.fault.Fault.TheVariants as fault
 use Rattle.record_check.specs.Limits.{longest_value}

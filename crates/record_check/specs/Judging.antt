@@ -8,8 +8,8 @@ use Rattle.mesh_text.specs.declared.ip.Ip.{Ip}
 use Rattle.mesh_text.specs.Laws.{ip_cmp}
 use Rattle.key_paths.specs.declared.key.Key.{Key}
 use Rattle.key_paths.specs.declared.key.Key.TheVariants as key
-use Rattle.mesh_records.specs.declared.records.Record.{Record}
-use Rattle.mesh_records.specs.declared.records.Record.TheVariants.{Node, Service, Identity, Address}
+use Rattle.record_values.specs.declared.records.Record.{Record}
+use Rattle.record_values.specs.declared.records.Record.TheVariants.{Node, Service, Identity, Address}
 use Rattle.record_check.specs.declared.limit.Limit.{Limit}
 use Rattle.record_check.specs.declared.fault.Fault.{Fault}
 use Rattle.record_check.specs.declared.fault.Fault.TheVariants as fault

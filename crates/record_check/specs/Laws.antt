@@ -6,8 +6,8 @@ use Rattle.key_paths.specs.declared.hop.Hop.{Hop}
 use Rattle.key_paths.specs.declared.key.Key.{Key}
 use Rattle.key_paths.specs.Paths.{record_ranges}
 use Rattle.key_paths.specs.Reading.{key_of}
-use Rattle.mesh_records.specs.declared.records.Record.TheVariants as found
-use Rattle.mesh_records.specs.Values.{Address}
+use Rattle.record_values.specs.declared.records.Record.TheVariants as found
+use Rattle.record_values.specs.Values.{Address}
 use Rattle.record_check.specs.declared.limit.Limit.{Limit}
 use Rattle.record_check.specs.Limits.{first_own_identity}
 use Rattle.record_check.specs.Faults.{first_fault}

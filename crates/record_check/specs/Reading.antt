@@ -8,10 +8,10 @@ use Rattle.key_paths.specs.declared.fault.KeyFault.{KeyFault}
 use Rattle.key_paths.specs.declared.fault.KeyFault.TheVariants.{UnknownPrefix}
 use Rattle.key_paths.specs.Keys.{kind_of}
 use Rattle.key_paths.specs.Reading.{◌>>=◌, key_of}
-use Rattle.mesh_records.specs.declared.fault.ReadFault.{ReadFault}
-use Rattle.mesh_records.specs.declared.records.Record.{Record}
-use Rattle.mesh_records.specs.declared.records.Record.TheVariants.{Node, Service, Identity, Address}
-use Rattle.mesh_records.specs.Record.{record_of}
+use Rattle.record_values.specs.declared.fault.ReadFault.{ReadFault}
+use Rattle.record_values.specs.declared.records.Record.{Record}
+use Rattle.record_values.specs.declared.records.Record.TheVariants.{Node, Service, Identity, Address}
+use Rattle.record_reading.specs.Record.{record_of}
 use Rattle.record_check.specs.declared.fault.Fault.{Fault}
 use Rattle.record_check.specs.declared.fault.Fault.TheVariants as fault
 use Rattle.record_check.specs.Faults.{Row, first_fault, unless, size_row, read_row}

@@ -8,8 +8,8 @@ use crate::judging::judge;
 use crate::limit::Limit;
 use crate::reading::read_pair;
 use mesh_base::Memory;
-use mesh_records::Record;
 use mesh_text::ClusterName;
+use record_values::Record;
 use std::alloc::Global;
 
 /// The record of a pair of this cluster, which has this number, or the first of the pair's faults:

@@ -1,8 +1,8 @@
 // A cluster's config.
 ghost use Rattle.std.specs.Prelude.{◌≡◌, IfOk, IfErr, IfSome, Ok, Err};
-ghost use Rattle.mesh_records.specs.Config.{config_of};
-ghost use Rattle.mesh_records.specs.Judgement.{judged};
-ghost use Rattle.mesh_records.specs.declared.fault.ReadFault.TheVariants as read_fault;
+ghost use Rattle.record_values.specs.declared.fault.ReadFault.TheVariants as read_fault;
+ghost use Rattle.record_reading.specs.Config.{config_of};
+ghost use Rattle.record_reading.specs.Judgement.{judged};
 ghost use Rattle.record_check.specs.Faults.{IsNamed, first_fault};
 ghost use Rattle.record_check.specs.Configs.{limit_rows, checked_config};
 
@@ -10,7 +10,8 @@ use crate::fault::Fault;
 use crate::limit::Limit;
 use crate::reading::size_fault;
 use mesh_base::Memory;
-use mesh_records::{ClusterConfig, ReadFault, read_config};
+use record_reading::read_config;
+use record_values::{ClusterConfig, ReadFault};
 use std::alloc::Global;
 
 /// The config that a value says.

@@ -1,5 +1,5 @@
 use key_paths::KeyFault;
-use mesh_records::ReadFault;
+use record_values::ReadFault;
 
 /// What is wrong with a pair, in the order in which the faults are looked for.
 ///

@@ -8,8 +8,8 @@ ghost use Rattle.record_check.specs.Judging.{judgement, same_ip};
 use crate::fault::Fault;
 use crate::limit::Limit;
 use key_paths::Key;
-use mesh_records::{AddressRecord, Node, Record, ServiceRecord};
 use mesh_text::{ClusterName, Ip, PartName};
+use record_values::{AddressRecord, Node, Record, ServiceRecord};
 
 fn same_ip(a: Ip, b: Ip) -> bool
     ensures { result ≡ same_ip a b }

@@ -5,6 +5,7 @@
 //! came from, `check` does both, and `config` does the same for a cluster's config. `laws` says
 //! what these have to do with each other.
 //! It knows nothing of stores, readers or tables.
+//! Its tests are the module `checks` of the crate `record_tests`.
 #![tactic(auto)]
 
 mod checking;
@@ -14,8 +15,6 @@ mod judging;
 mod laws;
 mod limit;
 mod reading;
-#[cfg(test)]
-mod tests;
 
 pub use checking::check;
 pub use configs::check_config;

@@ -1,8 +1,8 @@
 // A pair by its bytes alone.
 ghost use Rattle.std.specs.Prelude.{◌≡◌, IfOk, IfErr, Ok, Err, Some};
 ghost use Rattle.key_paths.specs.Keys.{kind_of};
-ghost use Rattle.mesh_records.specs.Record.{record_of};
-ghost use Rattle.mesh_records.specs.declared.fault.ReadFault.TheVariants as read_fault;
+ghost use Rattle.record_values.specs.declared.fault.ReadFault.TheVariants as read_fault;
+ghost use Rattle.record_reading.specs.Record.{record_of};
 ghost use Rattle.key_paths.specs.declared.fault.KeyFault.TheVariants as key_fault;
 ghost use Rattle.record_check.specs.Faults.{IsNamed, size_row};
 ghost use Rattle.record_check.specs.Reading.{record_key_of, reading_of, kind_of_record, IsOfKind};
@@ -11,7 +11,8 @@ use crate::fault::Fault;
 use crate::limit::LONGEST_VALUE;
 use key_paths::{Key, KeyFault, Kind, read_key};
 use mesh_base::Memory;
-use mesh_records::{ReadFault, Record, read_record};
+use record_reading::read_record;
+use record_values::{ReadFault, Record};
 use std::alloc::Global;
 
 /// The kind of record that a key is of, if it is one of a record.

@@ -12,7 +12,7 @@ use Rattle.key_paths.specs.Keys.{IsClusterName}
 use Rattle.key_paths.specs.Paths.{config_key, cut_key, mark_key}
 use Rattle.key_paths.specs.Reading.{key_of}
 use Rattle.key_paths.proofs.CallerLemmas.{key_bytes-config, key_bytes-cut, key_of-key_bytes}
-use Rattle.mesh_records.specs.Values.{Config}
+use Rattle.record_values.specs.Values.{Config}
 use Rattle.record_check.specs.Configs.{checked_config, valid_config}
 use Rattle.record_check.specs.declared.fault.Fault.{Fault}
 use Rattle.record_check.specs.declared.limit.Limit.{Limit}

@@ -2,8 +2,8 @@
 use Rattle.std.specs.Prelude.{◌≡◌, ℕ, List, codes, nat_eq, if◌then◌else◌, Option, None, Some, Result, Ok, Err}
 use Rattle.std.specs.List.{starts_with}
 use Rattle.mesh_text.specs.Numbers.{number_of}
-use Rattle.mesh_records.specs.declared.records.ClusterConfig.{ClusterConfig}
-use Rattle.mesh_records.specs.declared.records.Record.{Record}
+use Rattle.record_values.specs.declared.records.ClusterConfig.{ClusterConfig}
+use Rattle.record_values.specs.declared.records.Record.{Record}
 use Rattle.key_paths.specs.declared.fault.KeyFault.{KeyFault}
 use Rattle.key_paths.specs.declared.key.Key.{Key}
 use Rattle.key_paths.specs.declared.key.Key.TheVariants as key

@@ -1,6 +1,6 @@
 -- What is told of a view's pairs to those who report a source's records.
 use Rattle.std.specs.Prelude.{ℕ, List, [], ◌∷◌, if◌then◌else◌, Option, None, Some, option_and_then, Result}
-use Rattle.mesh_records.specs.declared.records.Record.{Record}
+use Rattle.record_values.specs.declared.records.Record.{Record}
 use Rattle.mesh_text.specs.Numbers.{number_of}
 use Rattle.key_paths.specs.Mapping.{state_key_of}
 use Rattle.key_paths.specs.Paths.{cut_key, record_ranges}

@@ -9,6 +9,7 @@
 //! `sync_keys` the keys by which pairs count as synced, and `counting` says how many rows a delivery
 //! needs. `telling` makes of pairs what is reported of records, and `laws` says what holds of every
 //! view that takes the deliveries of a history. It knows nothing of stores or of other sources.
+//! Its tests are the module `views` of the crate `table_tests`.
 #![tactic(auto)]
 
 mod counting;
@@ -20,8 +21,6 @@ mod reads;
 mod rows;
 mod sync_keys;
 mod telling;
-#[cfg(test)]
-mod tests;
 mod view;
 
 pub use delivery::{ReadBatch, ReadChange, ReadDelivery, ReadListing, ReadPair, ReadRevision};

@@ -5,9 +5,9 @@ ghost use Rattle.relist_merge.specs.Readings.{below_marks, config_said, cut_said
 
 use key_paths::{Hop, Key, KeyFault, Kind, read_key};
 use mesh_base::Memory;
-use mesh_records::{ClusterConfig, Record};
 use mesh_text::read_number;
 use record_check::{Fault, Limit, check_config, read_pair};
+use record_values::{ClusterConfig, Record};
 use std::alloc::Global;
 
 /// What a pair in a cluster's ranges says, by its key and its value alone.

@@ -12,9 +12,9 @@ use crate::rows::Row;
 use indexmap::IndexMap;
 use key_paths::{Hop, Key, is_record_key, to_state};
 use mesh_base::{Bytes, Items, Memory};
-use mesh_records::Record;
 use mesh_text::ClusterName;
 use record_check::Fault;
+use record_values::Record;
 use std::alloc::Global;
 
 /// A pair of a record, as it was read.

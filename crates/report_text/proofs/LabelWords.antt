@@ -4,8 +4,8 @@ use Rattle.std.specs.List.{flat_map}
 use Rattle.std.specs.Prelude.{◌==◌}
 use Rattle.std.proofs.lemmas.Bool.{eqb-true}
 use Rattle.std.proofs.lemmas.Grind.{flat_map-append}
-use Rattle.mesh_records.specs.Labels.{label_text}
-use Rattle.mesh_records.specs.Values.{LabelText}
+use Rattle.record_values.specs.Labels.{label_text}
+use Rattle.record_values.specs.Values.{LabelText}
 use Rattle.mesh_text.specs.Escapes.{escaped, escaped_byte}
 use Rattle.report_text.specs.Words.{labels_word}
 use Rattle.report_text.proofs.PlainBytes.{word_of}

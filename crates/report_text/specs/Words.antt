@@ -4,10 +4,10 @@ use Rattle.std.specs.Fmt.{decimal}
 use Rattle.mesh_text.specs.Addresses.{address_text}
 use Rattle.mesh_text.specs.Escapes.{escaped}
 use Rattle.mesh_text.specs.declared.ip.Ip.{Ip}
-use Rattle.mesh_records.specs.Labels.{label_text}
-use Rattle.mesh_records.specs.Values.{BackendPort, LabelText}
-use Rattle.mesh_records.specs.declared.fault.ReadFault.{ReadFault}
-use Rattle.mesh_records.specs.declared.fault.ReadFault.TheVariants as read
+use Rattle.record_values.specs.Labels.{label_text}
+use Rattle.record_values.specs.Values.{BackendPort, LabelText}
+use Rattle.record_values.specs.declared.fault.ReadFault.{ReadFault}
+use Rattle.record_values.specs.declared.fault.ReadFault.TheVariants as read
 use Rattle.key_paths.specs.declared.fault.KeyFault.{KeyFault}
 use Rattle.key_paths.specs.declared.fault.KeyFault.TheVariants as key
 use Rattle.key_paths.specs.declared.hop.Hop.{Hop}

@@ -5,6 +5,7 @@
 //! kind, and `lines` puts them in order. `printing` has the whole text, and `laws` says that the
 //! order of rows means nothing.
 //! It knows nothing of stores, readers or of how rows come about.
+//! Its tests are the module `reports` of the crate `table_tests`.
 #![tactic(auto)]
 
 mod escapes;
@@ -14,8 +15,6 @@ mod laws;
 mod lines;
 mod printing;
 mod rows;
-#[cfg(test)]
-mod tests;
 mod words;
 
 pub use head::Head;

@@ -1,6 +1,6 @@
 // The words of a line.
 ghost use Rattle.std.specs.Prelude.{◌≡◌, ◌++◌, IfOk, OnOk, codes, flat_map};
-ghost use Rattle.mesh_records.specs.Labels.{label_text};
+ghost use Rattle.record_values.specs.Labels.{label_text};
 ghost use Rattle.mesh_text.specs.Escapes.{escaped_byte};
 ghost use Rattle.report_text.specs.Words as words;
 
@@ -10,9 +10,9 @@ use crate::lines::push_word;
 use itoa::Buffer;
 use key_paths::{Hop, KeyFault};
 use mesh_base::{Bytes, Memory};
-use mesh_records::{Backend, Label, ReadFault};
 use mesh_text::{Ip, Text, escape, write_ip};
 use record_check::Fault;
+use record_values::{Backend, Label, ReadFault};
 use shared_tables::Why;
 use std::alloc::Global;
 

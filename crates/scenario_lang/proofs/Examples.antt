@@ -5,8 +5,8 @@ use Rattle.mesh_text.specs.Numbers.{number_of}
 use Rattle.mesh_text.specs.Escapes.{unescaped}
 use Rattle.mesh_text.specs.Addresses.{address_of, ipv4_of, ipv6_of}
 use Rattle.mesh_text.specs.declared.ip.Ip.TheVariants.{V4}
-use Rattle.mesh_records.specs.Identity.{identity_of}
-use Rattle.mesh_records.specs.Labels.{label_of}
+use Rattle.record_values.specs.Labels.{label_of}
+use Rattle.record_reading.specs.Identity.{identity_of}
 use Rattle.key_paths.specs.declared.hop.Hop.TheVariants.{State}
 use Rattle.scenario_lang.specs.declared.kinds.LineKind.{LineKind}
 use Rattle.scenario_lang.specs.declared.kinds.LineKind.TheVariants as kind

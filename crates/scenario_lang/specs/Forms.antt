@@ -8,8 +8,8 @@ use Rattle.mesh_text.specs.Names.{is_cluster_name, is_part_name}
 use Rattle.mesh_text.specs.Numbers.{number_of}
 use Rattle.mesh_text.specs.Addresses.{address_of}
 use Rattle.mesh_text.specs.Escapes.{unescaped}
-use Rattle.mesh_records.specs.declared.records.IdentityRecord.{IdentityRecord}
-use Rattle.mesh_records.specs.Identity.{identity_of}
+use Rattle.record_values.specs.declared.records.IdentityRecord.{IdentityRecord}
+use Rattle.record_reading.specs.Identity.{identity_of}
 use Rattle.key_paths.specs.declared.hop.Hop.{Hop}
 use Rattle.key_paths.specs.declared.hop.Hop.TheVariants.{State}
 use Rattle.scenario_lang.specs.declared.draft.Draft.{Draft}

@@ -6,6 +6,7 @@
 //! `entries` and `actions` read the line of each first word, `draft` keeps what was read so far,
 //! and `lines` reads a text.
 //! It knows nothing of stores, of what an action does or of reports.
+//! Its tests are the module `language` of the crate `language_tests`.
 #![tactic(auto)]
 
 mod actions;
@@ -20,8 +21,6 @@ mod remotes;
 mod scenario;
 mod splitting;
 mod stops;
-#[cfg(test)]
-mod tests;
 mod verb;
 mod words;
 

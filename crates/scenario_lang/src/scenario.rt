@@ -1,7 +1,7 @@
 use key_paths::Hop;
 use mesh_base::{Bytes, Items};
-use mesh_records::IdentityRecord;
 use mesh_text::{ClusterName, Ip, PartName};
+use record_values::IdentityRecord;
 
 /// A cluster with its number, from 1 to 255.
 #[derive(Debug, Drop)]

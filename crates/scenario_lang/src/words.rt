@@ -2,7 +2,7 @@
 ghost use Rattle.std.specs.Prelude.{◌≡◌, ◌∷◌, ◌-◌, ◌^◌, [], IfOk, OnErr, Ok, Err, Some, None};
 ghost use Rattle.scenario_lang.specs.Answers.{Gives};
 ghost use Rattle.scenario_lang.specs.Clusters.{names_of};
-ghost use Rattle.mesh_records.specs.Identity.{identity_of};
+ghost use Rattle.record_reading.specs.Identity.{identity_of};
 ghost use Rattle.scenario_lang.specs.Forms as forms;
 ghost use Rattle.scenario_lang.specs.Judgement.{or_fault};
 ghost use Rattle.scenario_lang.specs.Split.{words};
@@ -14,8 +14,9 @@ use crate::scenario::{Count, LinkName, Moment, StoreOf};
 use crate::splitting::next_word;
 use crate::stops::Stop;
 use mesh_base::{Bytes, Memory};
-use mesh_records::{IdentityRecord, ReadFault, Record, read_record};
 use mesh_text::{ClusterName, Ip, Kind, NameFault, PartName, read_ip, read_number, unescape};
+use record_reading::read_record;
+use record_values::{IdentityRecord, ReadFault, Record};
 use std::alloc::Global;
 
 /// The first word, and what follows it.

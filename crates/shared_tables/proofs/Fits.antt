@@ -1,5 +1,5 @@
 -- Readings that fit their keys stay so, and what a reader says fits.
-use Rattle.std.proofs.Common.{◌≡◌, ℕ, zero, suc, ◌<◌, List, [], ◌∷◌, length, Bool, true, false, cond, nat_eq, Option, None, Some, Result, Ok, Err, refl, ap, sym, ◌∙◌, arith, inl, inr}
+use Rattle.std.proofs.Common.{◌≡◌, ℕ, zero, suc, ◌<◌, List, [], ◌∷◌, length, Bool, true, false, cond, nat_eq, Option, None, Some, Ok, Err, refl, ap, sym, ◌∙◌, arith, inl, inr}
 use Rattle.std.specs.Cmp.Lexicographic.{pointwise, nat_list_eq_equiv}
 use Rattle.std.specs.HashMap.{HashMap, IsUnique, Updates, get, values}
 use Rattle.std.specs.List.{AllByRecursion}
@@ -12,16 +12,10 @@ use Rattle.mesh_text.specs.declared.kind.Kind.{Kind}
 use Rattle.mesh_text.specs.declared.kind.Kind.TheVariants.{Nodes, Services, Identities, Addresses}
 use Rattle.key_paths.specs.declared.key.Key.{Key}
 use Rattle.key_paths.specs.Keys.{kind_of}
-use Rattle.mesh_records.specs.declared.records.Record.{Record}
-use Rattle.mesh_records.specs.declared.records.Record.TheVariants.{Node, Service, Identity, Address}
-use Rattle.key_paths.specs.declared.fault.KeyFault.{KeyFault}
-use Rattle.key_paths.specs.Reading.{◌>>=◌, key_of}
-use Rattle.mesh_records.specs.declared.fault.ReadFault.{ReadFault}
-use Rattle.mesh_records.specs.Record.{record_of}
-use Rattle.record_check.specs.declared.fault.Fault.{Fault}
-use Rattle.record_check.specs.Faults.{first_fault, unless}
-use Rattle.record_check.specs.Reading.{IsOfKind, kind_of_record, reading_of, reading_rows, record_key_of, said, said_under, with_key, with_kind}
-use Rattle.record_check.proofs.RecordKinds.{kind_of_read}
+use Rattle.record_values.specs.declared.records.Record.{Record}
+use Rattle.record_values.specs.declared.records.Record.TheVariants.{Node, Service, Identity, Address}
+use Rattle.record_check.specs.Reading.{IsOfKind, kind_of_record, reading_of}
+use Rattle.record_check.proofs.CallerLemmas.{reading-IsOfKind}
 use Rattle.shared_tables.specs.declared.change.Row.{Row}
 use Rattle.shared_tables.specs.declared.change.RecordChange.{RecordChange}
 use Rattle.shared_tables.specs.Told.{SourceTold, IsChange, IsRow}
@@ -94,25 +88,12 @@ pub fit_from_kind : (key : Key) (value : Record) → IsOfKind key value → has_
 fit_from_kind key value h = ap (λ (o : Option Kind). has_kind o value) h ∙ has_its_kind value
 
 -- what a reader says of a pair fits
-fit_read : (key : Key) (kind : Kind) (value : List ℕ) (read : Result Record ReadFault) → record_of kind value ≡ read → Some kind ≡ kind_of key → is_fit (with_key key read) ≡ true
-fit_read key kind value (Ok r) is e = fit_from_kind key r (sym e ∙ ap Some (sym (kind_of_read kind value r is)))
-fit_read key kind value (Err why) is e = refl
-
-fit_keyed : (key : Key) (o : Option Kind) (value : List ℕ) → o ≡ kind_of key → is_fit (said_under (with_kind key o) value) ≡ true
-fit_keyed key None value e = refl
-fit_keyed key (Some kind) value e = fit_read key kind value (record_of kind value) refl e
-
-fit_found : (found : Result Key KeyFault) (value : List ℕ) → is_fit (said_under (found >>= λ key. with_kind key (kind_of key)) value) ≡ true
-fit_found (Ok key) value = fit_keyed key (kind_of key) value refl
-fit_found (Err why) value = refl
-
-fit_unless : (o : Option Fault) (r : Reading) → is_fit r ≡ true → is_fit (unless o r) ≡ true
-fit_unless None r h = h
-fit_unless (Some fault) r h = refl
+fit_said : (key value : List ℕ) (r : Reading) → reading_of key value ≡ r → is_fit r ≡ true
+fit_said key value (Ok (k, r)) e = fit_from_kind k r (reading-IsOfKind key value k r e)
+fit_said key value (Err fault) e = refl
 
 pub fit_of_reading : (key value : List ℕ) → is_fit (reading_of key value) ≡ true
-unfolding reading_of record_key_of
-fit_of_reading key value = fit_unless (first_fault (reading_rows key value)) (said key value) (fit_found (key_of key) value)
+fit_of_reading key value = fit_said key value (reading_of key value) refl
 
 fit_of_row : (name : List ℕ) (row : Row) → IsRow name row → is_fit row.reading ≡ true
 fit_of_row name row is = elim is.reading [

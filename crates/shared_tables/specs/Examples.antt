@@ -4,8 +4,8 @@ use Rattle.mesh_text.specs.declared.ip.Ip.TheVariants.{V4}
 use Rattle.key_paths.specs.declared.hop.Hop.TheVariants.{State}
 use Rattle.key_paths.specs.declared.key.Key.TheVariants as key
 use Rattle.key_paths.specs.Beginnings.{beginning}
-use Rattle.mesh_records.specs.Values.{BackendPort}
-use Rattle.mesh_records.specs.declared.records.Record.TheVariants.{Node, Service, Address}
+use Rattle.record_values.specs.Values.{BackendPort}
+use Rattle.record_values.specs.declared.records.Record.TheVariants.{Node, Service, Address}
 use Rattle.record_check.specs.declared.limit.Limit.TheVariants.{Small}
 use Rattle.record_check.specs.declared.fault.Fault.TheVariants as fault
 use Rattle.record_check.specs.Judging.{judgement}

@@ -5,8 +5,8 @@ use Rattle.std.specs.HashMap.{HashMap, get}
 use Rattle.mesh_text.specs.declared.kind.Kind.{Kind}
 use Rattle.mesh_text.specs.declared.kind.Kind.TheVariants.{Nodes, Services, Identities, Addresses}
 use Rattle.key_paths.specs.Keys.{kind_of}
-use Rattle.mesh_records.specs.declared.records.Record.{Record}
-use Rattle.mesh_records.specs.declared.records.Record.TheVariants.{Node, Service, Identity, Address}
+use Rattle.record_values.specs.declared.records.Record.{Record}
+use Rattle.record_values.specs.declared.records.Record.TheVariants.{Node, Service, Identity, Address}
 use Rattle.shared_tables.specs.RecordSets.{Reading}
 
 -- the kind is that of the record

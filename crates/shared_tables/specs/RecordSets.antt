@@ -3,8 +3,8 @@
 -- identities and addresses in its store).
 use Rattle.std.specs.Prelude.{ℕ, List, map, filter, Bool, Option, option_map, Result}
 use Rattle.std.specs.FinMap.{get, entries}
-use Rattle.mesh_records.specs.Values.{Config}
-use Rattle.mesh_records.specs.declared.records.Record.{Record}
+use Rattle.record_values.specs.Values.{Config}
+use Rattle.record_values.specs.declared.records.Record.{Record}
 use Rattle.key_paths.specs.declared.hop.Hop.TheVariants.{State}
 use Rattle.key_paths.specs.declared.key.Key.{Key}
 use Rattle.key_paths.specs.Paths.{config_key, record_ranges}

@@ -7,9 +7,9 @@ use crate::rows::Why;
 use crate::source::Source;
 use crate::standing::Standing;
 use mesh_base::Memory;
-use mesh_records::ClusterConfig;
 use mesh_text::ClusterName;
 use record_check::Fault;
+use record_values::ClusterConfig;
 
 fn has_number(number: u32, config: &Option<Result<ClusterConfig, Fault>>) -> bool
     ensures { result ≡ rules.has_number number config.now }

@@ -1,7 +1,7 @@
 use key_paths::Key;
 use mesh_base::Bytes;
-use mesh_records::Record;
 use record_check::Fault;
+use record_values::Record;
 
 /// What a pair of a key and a value says: a record under its key, or the first fault of its bytes.
 pub type Reading = Result<(Key, Record), Fault>;

@@ -7,6 +7,7 @@
 //! valid record, which `merged` holds. `least` finds the row of an address that several sources
 //! have, and `laws` says that order means nothing.
 //! It knows nothing of stores, readers or texts.
+//! Its tests are the module `tables` of the crate `table_tests`.
 #![tactic(auto)]
 
 mod admission;
@@ -23,8 +24,6 @@ mod standing;
 mod steps;
 mod tables;
 mod telling;
-#[cfg(test)]
-mod tests;
 mod walks;
 
 pub use change::{Reading, RecordChange, Row};

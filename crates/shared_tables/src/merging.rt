@@ -1,6 +1,6 @@
 // The walk over the pairs of all sources.
 ghost use Rattle.std.specs.Prelude.{◌≡◌, ◌++◌, ◌∷◌, [], ℕ, List, map, flat_map, OnOk, IfOk};
-ghost use Rattle.mesh_records.specs.declared.records.Record.TheVariants as records;
+ghost use Rattle.record_values.specs.declared.records.Record.TheVariants as records;
 ghost use Rattle.shared_tables.specs.Merge as merge;
 ghost use Rattle.shared_tables.specs.Merged.{arrived, with_rows, with_entry};
 
@@ -8,8 +8,8 @@ use crate::merged::{Claim, Merged};
 use crate::rows::{AddressRow, BackendRow, IdentityRow, NodeRow};
 use key_paths::Key;
 use mesh_base::{Items, Memory};
-use mesh_records::{AddressRecord, Backend, IdentityRecord, Node, Record, ServiceRecord};
 use mesh_text::{ClusterName, PartName};
+use record_values::{AddressRecord, Backend, IdentityRecord, Node, Record, ServiceRecord};
 
 fn push_node(
     rows: &mut Items<NodeRow>,

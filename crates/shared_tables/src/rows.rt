@@ -1,8 +1,8 @@
 use key_paths::Hop;
 use mesh_base::{Bytes, Items};
-use mesh_records::{Backend, Label};
 use mesh_text::{ClusterName, Ip, PartName, Text};
 use record_check::Fault;
+use record_values::{Backend, Label};
 
 /// A source, and how far its records were seen.
 #[derive(Debug, Drop)]

@@ -7,9 +7,9 @@ ghost use Rattle.shared_tables.specs.Fitting.{AreFit};
 use crate::change::Reading;
 use indexmap::IndexMap;
 use mesh_base::Bytes;
-use mesh_records::ClusterConfig;
 use mesh_text::ClusterName;
 use record_check::Fault;
+use record_values::ClusterConfig;
 
 /// What the tables were told of a source.
 #[derive(Drop)]

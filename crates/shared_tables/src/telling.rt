@@ -10,9 +10,9 @@ use crate::source::Source;
 use crate::steps::Steps;
 use crate::tables::Tables;
 use mesh_base::Memory;
-use mesh_records::ClusterConfig;
 use mesh_text::ClusterName;
 use record_check::{Fault, Limit};
+use record_values::ClusterConfig;
 use std::alloc::Global;
 use std::sync::ledger::Ledger;
 

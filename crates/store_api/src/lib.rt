@@ -4,6 +4,7 @@
 //! what holds of every history, `streams` what is read and written, `in_memory` streams over byte
 //! lists, and `adapters` streams over readers and writers.
 //! It knows nothing of clusters, key paths or threads.
+//! Its tests are the module `streams` of the crate `store_tests`.
 #![tactic(auto)]
 
 mod adapters;
@@ -12,8 +13,6 @@ mod in_memory;
 mod laws;
 mod store;
 mod streams;
-#[cfg(test)]
-mod tests;
 
 pub use adapters::{ReaderSource, WriterSink};
 pub use change::{Batch, Change, Delivery, Listing, Op, Pair, Range, Ranges, Revision, StoreFault};

@@ -7,7 +7,7 @@ use Rattle.mesh_text.specs.declared.kind.Kind.{Kind}
 use Rattle.store_api.specs.History.{Pairs}
 use Rattle.key_paths.specs.declared.hop.Hop.{Hop}
 use Rattle.key_paths.specs.Paths.{kinds, config_key, mark_key}
-use Rattle.mesh_records.specs.Values.{Config}
+use Rattle.record_values.specs.Values.{Config}
 use Rattle.record_check.specs.declared.limit.Limit.{Limit}
 use Rattle.record_check.specs.Configs.{valid_config}
 

@@ -7,7 +7,7 @@ ghost use Rattle.key_paths.specs.Paths.{kinds};
 ghost use Rattle.record_check.specs.declared.limit.Limit.{Limit};
 ghost use Rattle.synced_marks.specs.Synced.{config_in, has_mark, is_synced, is_synced_by};
 
-use mesh_records::ClusterConfig;
+use record_values::ClusterConfig;
 
 /// Whether a source is synced: it has a valid config, and this says no canaries or the marks of all
 /// four kinds are there (Cilium: a remote cluster counts as synced by its canaries).

@@ -6,6 +6,7 @@
 //! has what a pass knows and the rule that holds between any two steps. `tally` is an example of a
 //! value that is kept, and of a turn with it.
 //! It knows nothing of what the value is, nor of stores, boards or workers.
+//! Its tests are the module `turns` of the crate `store_tests`.
 #![tactic(auto)]
 
 mod cell;
@@ -13,8 +14,6 @@ mod kept;
 mod seat_steps;
 mod steps;
 mod tally;
-#[cfg(test)]
-mod tests;
 mod view;
 
 pub use cell::{Pass, TurnCell};

@@ -10,8 +10,8 @@ use crate::reading::cut_said;
 use crate::telling::ReadRecord;
 use crate::view::View;
 use mesh_base::{Items, Memory};
-use mesh_records::ClusterConfig;
 use record_check::{Fault, check_config};
+use record_values::ClusterConfig;
 use std::alloc::Global;
 use store_api::Pair;
 

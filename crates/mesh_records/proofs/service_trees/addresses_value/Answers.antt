@@ -4,8 +4,8 @@ use Rattle.serde_json.specs.Data.{object}
 use Rattle.serde_json.specs.View.{members_view}
 use Rattle.serde_json.proofs.Views.{view-Object}
 use Rattle.mesh_text.specs.Addresses.{address_text}
-use Rattle.mesh_records.specs.Values.{BackendPort}
-use Rattle.mesh_records.specs.Backends.{IsBackend}
+use Rattle.record_values.specs.Values.{BackendPort}
+use Rattle.record_values.specs.Backends.{IsBackend}
 use Rattle.mesh_records.specs.Trees.{by_address, ports_under_address, put_all, same_address}
 use Rattle.mesh_records.proofs.AddressGroups.{nothing_left, one_more_address, same_address-within, split_all}
 use Rattle.mesh_records.proofs.service_trees.addresses_value.Goals as goal

@@ -2,7 +2,7 @@ use Rattle.std.proofs.Common.{◌≡◌, map, length}
 use Rattle.std.specs.List.{AllByRecursion}
 use Rattle.serde_json.specs.Data.{no_members}
 use Rattle.serde_json.specs.View.{members_view}
-use Rattle.mesh_records.specs.Backends.{IsBackend}
+use Rattle.record_values.specs.Backends.{IsBackend}
 use Rattle.mesh_records.specs.Trees.{by_address, ports_under_address, put_all}
 use Rattle.mesh_records.proofs.service_trees.addresses_value.Given as goal
 

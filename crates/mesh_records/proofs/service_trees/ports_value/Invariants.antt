@@ -2,7 +2,7 @@ use Rattle.std.proofs.Common.{◌≡◌, map, drop}
 use Rattle.std.specs.List.{AllByRecursion}
 use Rattle.serde_json.specs.Data.{no_members}
 use Rattle.serde_json.specs.View.{members_view}
-use Rattle.mesh_records.specs.Backends.{IsBackend}
+use Rattle.record_values.specs.Backends.{IsBackend}
 use Rattle.mesh_records.specs.Trees.{named_port, put_all}
 use Rattle.mesh_records.proofs.service_trees.ports_value.Given as goal
 

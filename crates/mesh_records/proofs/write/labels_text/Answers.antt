@@ -1,4 +1,4 @@
-use Rattle.mesh_records.proofs.LabelsBack.{text_grows, labels_grow, all_labels}
+use Rattle.mesh_records.proofs.LabelTexts.{text_grows, labels_grow, all_labels}
 use Rattle.mesh_records.proofs.write.labels_text.Goals as goal
 
 pub loop-label-preserved : goal.loop-label-preserved

@@ -1,6 +1,6 @@
 use Rattle.std.proofs.Common.{◌≡◌, ◌++◌, drop, take}
 use Rattle.std.specs.List.{All, flat_map}
-use Rattle.mesh_records.specs.Labels.{IsLabel, label_text}
+use Rattle.record_values.specs.Labels.{IsLabel, label_text}
 use Rattle.mesh_records.proofs.write.labels_text.Given as goal
 
 -- the text so far and that of the rest are the text of all

@@ -1,5 +1,5 @@
 use Rattle.std.proofs.Common.{refl}
-use Rattle.mesh_records.specs.Address.{address_record_of}
+use Rattle.record_reading.specs.Address.{address_record_of}
 use Rattle.mesh_records.specs.Trees.{address_tree}
 use Rattle.mesh_records.proofs.AddressBack.{address_reads_back, no_float, shallow}
 use Rattle.mesh_records.proofs.Written.{text_written, read_again}

@@ -1,5 +1,5 @@
 use Rattle.std.proofs.Common.{refl, lit≤}
-use Rattle.mesh_records.specs.Config.{config_of}
+use Rattle.record_reading.specs.Config.{config_of}
 use Rattle.mesh_records.specs.Trees.{config_tree}
 use Rattle.mesh_records.proofs.ConfigBack.{config_reads_back}
 use Rattle.mesh_records.proofs.Written.{text_written, read_again}

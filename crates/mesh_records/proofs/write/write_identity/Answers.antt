@@ -1,7 +1,7 @@
 use Rattle.std.proofs.Common.{List, Ok, ap, ◌∙◌}
-use Rattle.mesh_records.specs.Values.{LabelText}
-use Rattle.mesh_records.specs.Identity.{identity_of}
-use Rattle.mesh_records.proofs.LabelsBack.{identity_reads_back}
+use Rattle.record_values.specs.Values.{LabelText}
+use Rattle.record_reading.specs.Identity.{identity_of}
+use Rattle.record_reading.proofs.LabelsBack.{identity_reads_back}
 use Rattle.mesh_records.proofs.write.write_identity.Goals as goal
 
 pub returns-clause-reads_back : goal.returns-clause-reads_back

@@ -1,5 +1,5 @@
 use Rattle.std.proofs.Common.{refl}
-use Rattle.mesh_records.specs.Node.{node_of}
+use Rattle.record_reading.specs.Node.{node_of}
 use Rattle.mesh_records.specs.Trees.{node_tree}
 use Rattle.mesh_records.proofs.NodeBack.{node_reads_back, node_plain}
 use Rattle.mesh_records.proofs.Written.{text_written, read_again}

@@ -1,5 +1,5 @@
 use Rattle.std.proofs.Common.{refl}
-use Rattle.mesh_records.specs.Service.{service_of}
+use Rattle.record_reading.specs.Service.{service_of}
 use Rattle.mesh_records.specs.Trees.{service_tree}
 use Rattle.mesh_records.proofs.ServiceBack.{service_reads_back, service_plain}
 use Rattle.mesh_records.proofs.Written.{text_written, read_again}

@@ -1,6 +1,6 @@
 use Rattle.std.proofs.Common.{◌≡◌, ◌++◌, ◌∷◌, drop}
 use Rattle.std.specs.List.{flat_map}
-use Rattle.mesh_records.specs.Labels.{label_text}
+use Rattle.record_values.specs.Labels.{label_text}
 use Rattle.mesh_text.specs.Escapes.{escaped_byte}
 use Rattle.report_text.specs.Words.{labels_word}
 use Rattle.report_text.proofs.words.push_labels.Given as goal

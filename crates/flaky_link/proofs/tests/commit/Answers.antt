@@ -1,6 +1,0 @@
-use Rattle.std.specs.List.{IsDistinct}
-use Rattle.flaky_link.proofs.tests.commit.Goals as goal
-
-pub commit-requires-clause-distinct : goal.commit-requires-clause-distinct
-unfolding IsDistinct
-commit-requires-clause-distinct g c = (tt, tt)

@@ -1,7 +1,0 @@
-use Rattle.std.proofs.Common.{◌≡◌, drop}
-use Rattle.mesh_records.specs.Labels.{has_byte}
-use Rattle.mesh_records.proofs.identity.holds_byte.Given as goal
-
--- the rest decides
-abbrev pub invariant-loop-b : goal.invariant-loop-b
-invariant-loop-b l = has_byte l.byte (drop l.b-index l.bytes) ≡ has_byte l.byte l.bytes

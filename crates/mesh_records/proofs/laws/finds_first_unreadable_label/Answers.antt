@@ -1,8 +1,0 @@
-use Rattle.mesh_records.proofs.LabelGrammar.{finds_first_unreadable, refuses_by_place}
-use Rattle.mesh_records.proofs.laws.finds_first_unreadable_label.Goals as goal
-
-pub returns-clause-place : goal.returns-clause-place
-returns-clause-place c = finds_first_unreadable
-
-pub returns-clause-alone : goal.returns-clause-alone
-returns-clause-alone c = refuses_by_place

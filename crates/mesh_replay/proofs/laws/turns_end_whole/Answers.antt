@@ -1,5 +1,0 @@
-use Rattle.mesh_replay.proofs.WholeTurns.{turns_end_whole}
-use Rattle.mesh_replay.proofs.laws.turns_end_whole.Goals as goal
-
-pub returns : goal.returns
-returns c = turns_end_whole

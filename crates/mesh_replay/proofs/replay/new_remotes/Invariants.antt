@@ -1,6 +1,0 @@
-use Rattle.std.proofs.Common.{take}
-use Rattle.mesh_replay.specs.Shown.{AreNew}
-use Rattle.mesh_replay.proofs.replay.new_remotes.Given as goal
-
-abbrev pub invariant-loop-remote : goal.invariant-loop-remote
-invariant-loop-remote l = AreNew l.seconds (take l.remote-index l.scenario.remotes) l.remotes.items

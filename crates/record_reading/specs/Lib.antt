@@ -1,0 +1,10 @@
+pub mod Judgement
+pub mod Forms
+pub mod Config
+pub mod Node
+pub mod Address
+pub mod LabelReading
+pub mod Identity
+pub mod Laws
+pub mod Service
+pub mod Record

@@ -1,0 +1,40 @@
+use scenario_replay::{Status, fresh_stores, mesh_steps};
+use std::alloc::Global;
+use store_api::{BytesSink, BytesSource, Memory};
+
+/// The most bytes that a case may write.
+const ROOM: usize = 1000000;
+
+fn status_word(status: Status) -> &'static str {
+    match status {
+        Status::Done => "done",
+        Status::Usage => "usage",
+        Status::Scenario { line: _, kind: _ } => "scenario",
+        Status::ReadFault => "read_fault",
+        Status::WriteFault => "write_fault",
+        Status::Memory => "memory",
+    }
+}
+
+/// How a replay of the text on fresh stores ends; what it writes is in the sink.
+fn replay(alloc: Global, text: &str, sink: &mut BytesSink) -> Result<Status, Memory> {
+    let words = vec![in alloc; String::from_str(alloc, "step")?]?;
+    let bytes = Vec::from_slice(alloc, text.as_bytes())?;
+    let mut source = BytesSource::new(bytes, Vec::new(alloc));
+    let mut stores = fresh_stores(alloc)?;
+    Ok(mesh_steps(
+        alloc,
+        words.as_slice(),
+        &mut source,
+        sink,
+        stores.as_mut_slice(),
+    ))
+}
+
+/// The status of a replay of the text on fresh stores as a line, and behind it what it writes.
+pub fn replayed(alloc: Global, text: &str) -> Result<String, Memory> {
+    let mut sink = BytesSink::new(alloc, ROOM, Vec::new(alloc))?;
+    let status = status_word(replay(alloc, text, &mut sink)?);
+    let written = String::from_utf8_lossy(alloc, sink.bytes())?;
+    Ok(format!(in alloc; "{status}\n{written}")?)
+}

@@ -1,0 +1,117 @@
+-- What a turn of the agent's reader through a link was, and what it made of the reader and of the view.
+use Rattle.std.proofs.Common.{◌≡◌, ◌≢◌, ◌≤◌, ℕ, ◌+◌, leb, List, [], ◌∷◌, true, false, if◌then◌else◌, Option, None, Some, refl, sym, ap, subst, ◌∙◌, arith}
+use Rattle.std.proofs.lemmas.Bool.{le-leb, lt-leb}
+use Rattle.key_paths.specs.declared.hop.Hop.TheVariants.{State}
+use Rattle.key_paths.specs.Paths.{ranges_of}
+use Rattle.record_check.specs.declared.limit.Limit.TheVariants.{Small}
+use Rattle.exporter.specs.Crossed.{Does}
+use Rattle.store_api.specs.Advance.{turned}
+use Rattle.store_api.specs.Contents.{Contents, unchanged}
+use Rattle.store_api.specs.Crossing.{to_list, to_pull}
+use Rattle.store_api.specs.History.{Begins, History, revision}
+use Rattle.store_api.specs.Meaning.{Meaning, Makes, MayMake}
+use Rattle.store_api.specs.Spans.{Record, Span, cursor_of}
+use Rattle.store_api.specs.declared.change.Delivery.{Delivery}
+use Rattle.reflector.specs.Crossing.{asked, end_of}
+use Rattle.reflector.specs.Reader.{Reader, Stands}
+use Rattle.reflector.specs.Turns.{IsAnswer, Reads, ReadsIf, after_turn, delivered, delivered_if, delivery_of, followed}
+use Rattle.reflector.specs.declared.turns.Turn.{Turn}
+use Rattle.reflector.specs.declared.turns.Turn.TheVariants as turn
+use Rattle.relist_merge.specs.Given.{IsGiven, gone_on}
+use Rattle.relist_merge.specs.Records.{AreWithin}
+use Rattle.relist_merge.specs.Sight.{viewed}
+use Rattle.relist_merge.specs.View.{Follows}
+use Rattle.relist_merge.specs.Viewed.{Source, Viewed}
+use Rattle.relist_merge.specs.Viewed as view
+use Rattle.relist_merge.proofs.CallerLemmas.{follows_later, given_as, gone_on_as}
+use Rattle.scenario_replay.specs.Actions as action
+use Rattle.scenario_replay.specs.Reads.{IsRead}
+use Rattle.scenario_replay.specs.Sources.{state_of}
+use Rattle.scenario_replay.specs.Took.{IsTold}
+use Rattle.scenario_replay.specs.declared.agent.Agent.{Agent}
+
+-- a turn never wants memory
+pub told_turn : (t : Turn) → IsTold (end_of t)
+told_turn (turn.Listed l) = tt
+told_turn (turn.Pulled b) = tt
+told_turn (turn.Compacted n) = tt
+told_turn turn.Lost = tt
+told_turn turn.NothingNew = tt
+
+-- its call has no effect
+no_effect : (reader : Reader) → (asked reader).effect ≡ unchanged
+no_effect reader = elim reader.is_waiting as (λ b. (if b then to_list else to_pull (reader.cursor + 1)).effect ≡ unchanged) [ true ↦ refl | false ↦ refl ]
+
+-- whether the call is refused
+lists : (reader : Reader) (c : Contents) → reader.is_waiting ≡ true → (asked reader).is_refused c ≡ false
+lists reader c waits = rw waits refl
+
+pulls : (reader : Reader) (c : Contents) → reader.is_waiting ≡ false → (asked reader).is_refused c ≡ leb (reader.cursor + 1) c.compacted
+pulls reader c runs = rw runs refl
+
+-- what the call of a turn did to the store
+pub does_turn : (most : ℕ) (reader : Reader) (t : Turn) (old new : Meaning) → IsAnswer most new.contents reader t → (t ≢ turn.Lost → Makes old new unchanged) → (t ≡ turn.Lost → MayMake old new unchanged) → Does (asked reader) (end_of t) old new
+does_turn most reader (turn.Listed l) old new a made lost = (lists reader new.contents a.0, rw (no_effect reader) (made (λ e. cc)))
+does_turn most reader (turn.Pulled b) old new a made lost = (pulls reader new.contents a.0 ∙ lt-leb (reader.cursor + 1) new.contents.compacted (omega (arith, a.1)), rw (no_effect reader) (made (λ e. cc)))
+does_turn most reader (turn.Compacted n) old new a made lost = (pulls reader new.contents a.0 ∙ le-leb (reader.cursor + 1) new.contents.compacted (omega (arith, a.1, a.2)), made (λ e. cc))
+does_turn most reader turn.Lost old new a made lost = rw (no_effect reader) (lost refl)
+does_turn most reader turn.NothingNew old new a made lost = (pulls reader new.contents a.0 ∙ lt-leb (reader.cursor + 1) new.contents.compacted (omega (arith, a.1)), rw (no_effect reader) (made (λ e. cc)))
+
+-- the reader keeps its ranges
+pub same_ranges : (t : Turn) (reader : Reader) → (after_turn t reader).ranges ≡ reader.ranges
+same_ranges (turn.Listed l) reader = refl
+same_ranges (turn.Pulled b) reader = refl
+same_ranges (turn.Compacted n) reader = refl
+same_ranges turn.Lost reader = refl
+same_ranges turn.NothingNew reader = refl
+
+-- its record goes on by how the call ended, over the contents that the store has then
+pub turned_so : (most : ℕ) (c : Contents) (t : Turn) (r : Record) → (t ≢ turn.Lost → followed t r ≡ turned most (revision c.history) c.compacted r) → followed t r ≡ action.turned_by most (end_of t) c r
+turned_so most c (turn.Listed l) r advance = advance (λ e. cc)
+turned_so most c (turn.Pulled b) r advance = advance (λ e. cc)
+turned_so most c (turn.Compacted n) r advance = advance (λ e. cc)
+turned_so most c turn.Lost r advance = refl
+turned_so most c turn.NothingNew r advance = advance (λ e. cc)
+
+-- the ranges and the source of the view of a cluster's own store
+abbrev pub source_of : List ℕ → Source
+source_of cluster = record { cluster = cluster; hop = State; limit = Small }
+
+-- what a view that takes a delivery ensures
+abbrev pub Takes : Viewed → Viewed → Delivery → Type 0
+Takes old new d =
+    (history : History) (r : Record) → Follows (view.followed old.source) history r old.shown → IsGiven (ranges_of old.source.cluster old.source.hop) history r d → Follows (view.followed old.source) history (gone_on d r) new.shown
+
+module _ (cluster : List ℕ) (h later : History) (begins : Begins h later) (r : Record) (old : Viewed) (source : old.source ≡ source_of cluster) (follows : Follows (state_of cluster) h r old.shown) where
+  -- where nothing was handed on
+  pub follows_none : (t : Turn) → delivery_of t ≡ None → Follows (state_of cluster) later (followed t r) old.shown
+  follows_none t none = rw none (follows_later (state_of cluster) h later begins r old.shown follows)
+
+  -- where a delivery was
+  pub follows_some : (t : Turn) (d : Delivery) (new : Viewed) → delivery_of t ≡ Some d → ReadsIf (ranges_of cluster State) later r (delivery_of t) → Takes old new d → Follows (state_of cluster) later (followed t r) new.shown
+  follows_some t d new some reads takes =
+      let now : Follows (state_of cluster) later r old.shown = follows_later (state_of cluster) h later begins r old.shown follows in
+      let read : Reads (ranges_of cluster State) later r d = subst (λ (o : Option Delivery). ReadsIf (ranges_of cluster State) later r o) some reads in
+      let given : IsGiven (ranges_of cluster State) later r d = given_as (ranges_of cluster State) later r (λ (x : Delivery). Reads (ranges_of cluster State) later r x) (λ l p. p) (λ b p. p) d read in
+      let so = subst (λ (s : Source). (history : History) (q : Record) → Follows (view.followed s) history q old.shown → IsGiven (ranges_of s.cluster s.hop) history q d → Follows (view.followed s) history (gone_on d q) new.shown) source takes in
+      let on : followed t r ≡ gone_on d r = ap (λ (o : Option Delivery). delivered_if o r) some ∙ gone_on_as delivered (λ l q. refl) (λ b q. refl) (λ q. refl) d r in
+      subst (λ (q : Record). Follows (state_of cluster) later q new.shown) (sym on) (so later r now given)
+
+-- the cursor of a reader that does not wait is not beyond the history that it follows
+pub cursor_within : (last : ℕ) (spans : List Span) → AreWithin last spans → cursor_of spans ≤ last
+cursor_within last [] within = omega arith
+cursor_within last (s ∷ older) within = within.1
+
+-- the agent's reader and view after a turn
+pub read_on : (most : ℕ) (cluster : List ℕ) (h : History) (c : Contents) (t : Turn) (r : Record) (old new : Agent) → IsRead cluster h r old
+    → new.reader ≡ after_turn t old.reader → Stands new.reader (followed t r) → (t ≢ turn.Lost → followed t r ≡ turned most (revision c.history) c.compacted r)
+    → (viewed new.view).source ≡ (viewed old.view).source → Follows (state_of cluster) c.history (followed t r) (viewed new.view).shown
+    → IsRead cluster c.history (action.turned_by most (end_of t) c r) new
+read_on most cluster h c t r old new is reader stands advance source follows =
+    let e : followed t r ≡ action.turned_by most (end_of t) c r = turned_so most c t r advance in
+    record {
+      ranges = ap (λ (x : Reader). x.ranges) reader ∙ same_ranges t old.reader ∙ is.ranges;
+      stands = subst (λ (q : Record). Stands new.reader q) e stands;
+      source = source ∙ is.source;
+      follows = subst (λ (q : Record). Follows (state_of cluster) c.history q (viewed new.view).shown) e follows;
+    }

@@ -1,0 +1,49 @@
+-- That the calls on stores went the way that a world says.
+use Rattle.std.specs.Prelude.{◌≡◌, ℕ, ◌+◌, ◌≤◌, ◌==◌, List, [], ◌∷◌, ◌++◌, map, length, if◌then◌else◌, slice_index, true}
+use Rattle.store_api.specs.Meaning.{Meaning}
+use Rattle.scenario_replay.specs.World.{World}
+use Rattle.scenario_replay.specs.Asking.{Outcome, Made, LostBefore, LostAfter, Step, done}
+
+-- nobody else writes, and every key may be written
+pub record IsOpen (m : Meaning) : Type 0 where
+  pub quiet : m.quiet ≡ true
+  pub writable : (k : List ℕ) → m.writable k ≡ true
+
+-- how often the place stands in the list
+abbrev pub occurrences : ℕ → List ℕ → ℕ
+occurrences i [] = 0
+occurrences i (j ∷ places) = (if j == i then 1 else 0) + occurrences i places
+
+abbrev pub faults_at : List Meaning → ℕ → ℕ
+faults_at stores i = slice_index (map (λ (m : Meaning). m.faults) stores) i
+
+abbrev pub calls_at : List Meaning → ℕ → ℕ
+calls_at stores i = slice_index (map (λ (m : Meaning). m.calls) stores) i
+
+-- For each store: no more calls were lost than its count of faults rose, and its count of calls rose by no
+-- more than there are outcomes.
+pub record Tallies (old new : World) (before after : List Meaning) : Type 0 where
+  pub lost : (i : ℕ) → occurrences i new.lost + faults_at before i ≤ occurrences i old.lost + faults_at after i
+  pub asked : (i : ℕ) → calls_at after i + occurrences i old.asked ≤ calls_at before i + occurrences i new.asked
+
+-- how many of the calls were lost
+abbrev pub losses : List Outcome → ℕ
+losses [] = 0
+losses (Made ∷ more) = losses more
+losses (LostBefore ∷ more) = 1 + losses more
+losses (LostAfter ∷ more) = 1 + losses more
+
+-- With some outcomes, all of them used, what `does` does from the old world is what `rest` does from the
+-- new one, whatever outcomes follow; the stores have the new world's contents, and the calls tally.
+pub record Goes {X : Type 0} (does rest : Step X) (old : World) (before after : List Meaning) (Shows : World → Type 0) : Type 0 where
+  pub used : List Outcome
+  pub new : World
+  pub goes : (more : List Outcome) → does old (used ++ more) ≡ rest new more
+  pub stores : new.stores ≡ map (λ (m : Meaning). m.contents) after
+  pub lost : length new.lost ≡ losses used + length old.lost
+  pub tallies : Tallies old new before after
+  pub shows : Shows new
+
+-- there are outcomes, all of them used, with which this leads from the old world to one that shows this
+abbrev pub Leads : Step (World × List Outcome) → World → List Meaning → List Meaning → (World → Type 0) → Type 0
+Leads does old before after Shows = Goes does done old before after Shows

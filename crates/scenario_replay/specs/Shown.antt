@@ -1,0 +1,98 @@
+-- What the program keeps of a world, and what each of its steps does to that.
+use Rattle.std.specs.Prelude.{◌≡◌, ℕ, ◌≤◌, List, [], ◌∷◌, map, drop, length}
+use Rattle.std.specs.List.{All, IsDistinct}
+use Rattle.mesh_base.specs.Order.{same_bytes}
+use Rattle.exporter.specs.State.{Export}
+use Rattle.flaky_link.specs.Link.{Link}
+use Rattle.scenario_lang.specs.declared.scenario.LinkName.{LinkName}
+use Rattle.scenario_lang.specs.declared.scenario.Remote as said
+use Rattle.store_api.specs.Contents.{Contents}
+use Rattle.store_api.specs.Crossing.{Request, Ending}
+use Rattle.store_api.specs.History.{History}
+use Rattle.store_api.specs.Meaning.{Meaning}
+use Rattle.scenario_replay.specs.Actions.{Does}
+use Rattle.scenario_replay.specs.Goes.{IsOpen, Leads}
+use Rattle.scenario_replay.specs.Reads.{IsRead}
+use Rattle.scenario_replay.specs.World as world
+use Rattle.scenario_replay.specs.Took.{Called, Exports, IsTold}
+use Rattle.scenario_replay.specs.World.{World, link_of, new_remote, with_link}
+use Rattle.scenario_replay.specs.declared.remote.Remote.{Remote}
+use Rattle.scenario_replay.specs.declared.replay.Replay.{Replay}
+
+-- the remote is the world's, over this history of its store
+pub record IsShown (history : History) (w : world.Remote) (r : Remote) : Type 0 where
+  pub exporter : r.exporter ≡ w.exporter
+  pub number : r.number ≡ w.exporter.number
+  pub to_exporter : r.to_exporter ≡ w.to_exporter
+  pub to_agent : r.to_agent ≡ w.to_agent
+  pub agent : IsRead w.exporter.cluster history w.reader r.agent
+
+-- From each world's remote that it was, a call through this link goes on to the one that it is: how the
+-- call ended, over the contents that the store has then, makes the new one of the old.
+pub record Asked (link : LinkName) (request : world.Remote → Request) (ends : Ending → Contents → world.Remote → world.Remote) (w : world.Remote) (new : Remote) (before after : Meaning) : Type 0 where
+  pub left : Link
+  pub end : Ending
+  pub told : IsTold end
+  pub called : Called (request w) end (link_of link w, before) (left, after)
+  pub shown : IsShown after.contents.history (ends end after.contents (with_link link (λ l. left) w)) new
+
+abbrev pub Asks : LinkName → (world.Remote → Request) → (Ending → Contents → world.Remote → world.Remote) → Remote → Remote → Meaning → Meaning → Type 0
+Asks link request ends old new before after = (w : world.Remote) → IsShown before.contents.history w old → Asked link request ends w new before after
+
+-- it writes some items of its exporter's queue through the exporter's link
+pub record Exported (most : ℕ) (w : world.Remote) (new : Remote) (before after : Meaning) : Type 0 where
+  pub left : Link
+  pub exporter : Export
+  pub exports : Exports most w.exporter exporter (w.to_exporter, before) (left, after)
+  pub shown : IsShown after.contents.history (record w { exporter = exporter; to_exporter = left }) new
+
+abbrev pub Writes : ℕ → Remote → Remote → Meaning → Meaning → Type 0
+Writes most old new before after = (w : world.Remote) → IsShown before.contents.history w old → Exported most w new before after
+
+-- a change without a call
+abbrev pub Changes : (world.Remote → world.Remote) → Remote → Remote → Type 0
+Changes change old new = (history : History) (w : world.Remote) → IsShown history w old → IsShown history (change w) new
+
+-- it is some world's
+abbrev pub IsSome : History → Remote → Type 0
+IsSome history r = (w : world.Remote) × IsShown history w r
+
+-- so is each, over the contents of its store
+abbrev pub AreShown : List Contents → List world.Remote → List Remote → Type 0
+AreShown stores [] [] = Unit {0}
+AreShown (c ∷ stores) (w ∷ ws) (r ∷ rs) = IsShown c.history w r × AreShown stores ws rs
+AreShown _ _ _ = ⊥
+
+-- each is the new remote of the one in a scenario, over any history
+abbrev pub AreNew : ℕ → List said.Remote → List Remote → Type 0
+AreNew seconds [] [] = Unit {0}
+AreNew seconds (s ∷ ss) (r ∷ rs) = ((history : History) → IsShown history (new_remote s.name s.number seconds) r) × AreNew seconds ss rs
+AreNew seconds _ _ = ⊥
+
+-- the names of the remotes
+abbrev pub names_in : Replay → List (List ℕ)
+names_in replay = map (λ (r : Remote). r.exporter.cluster) replay.remotes.items
+
+-- the stores are open, and the program is at this world
+pub record HasWorld (w : World) (replay : Replay) (stores : List Meaning) : Type 0 where
+  pub many : length stores ≡ 256
+  pub opens : All IsOpen stores
+  pub few : length replay.remotes.items ≤ 255
+  pub apart : IsDistinct same_bytes (replay.local ∷ names_in replay)
+  pub local : replay.number ≡ w.local
+  pub contents : w.stores ≡ map (λ (m : Meaning). m.contents) stores
+  pub shown : AreShown (drop 1 w.stores) w.remotes replay.remotes.items
+  pub reports : replay.reports ≡ w.reports
+  pub text : replay.text ≡ w.text
+
+-- it is at some world
+abbrev pub HasSomeWorld : Replay → List Meaning → Type 0
+HasSomeWorld replay stores = (w : World) × HasWorld w replay stores
+
+-- from each world that the program was at, the step leads to one that it is at
+abbrev pub Makes : Does → Replay → Replay → List Meaning → List Meaning → Type 0
+Makes does old new before after = (w : World) → HasWorld w old before → Leads does w before after (λ next. HasWorld next new after)
+
+-- without a call on a store
+abbrev pub MakesPlainly : Does → Replay → Replay → Type 0
+MakesPlainly does old new = (stores : List Meaning) → Makes does old new stores stores
