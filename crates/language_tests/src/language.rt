@@ -6,8 +6,7 @@ mod sizes;
 use mesh_base::Memory;
 use scenario_lang::{LineFault, Mode, read_scenario};
 use std::alloc::Global;
-use std::test::Fail;
-use test_cases::{Answers, first_wrong};
+use test_cases::{Answers, Wrong, each_line_holds};
 
 const RUN: Mode = Mode::Run { probes: 4 };
 
@@ -79,15 +78,12 @@ impl Answers for FirstFault {
     }
 }
 
-/// Fails with the first line that is answered otherwise than it says.
-fn run_cases<A: Answers>(answering: &mut A, alloc: Global, cases: &str) -> Result<(), Fail> {
-    match first_wrong(answering, alloc, cases)? {
-        Some(wrong) => Err(wrong)?,
-        None => Ok(()),
-    }
-}
-
-/// The same, of the first faults of lines behind this head.
-fn run_faults(alloc: Global, mode: Mode, head: &'static str, cases: &str) -> Result<(), Fail> {
-    run_cases(&mut FirstFault { mode, head }, alloc, cases)
+/// Holds where the lines behind this head have the first faults that the cases say.
+fn each_fault_holds(
+    alloc: Global,
+    mode: Mode,
+    head: &'static str,
+    cases: &str,
+) -> Result<(), Wrong> {
+    each_line_holds(&mut FirstFault { mode, head }, alloc, cases)
 }

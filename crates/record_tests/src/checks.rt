@@ -4,7 +4,7 @@ use mesh_text::{ClusterName, NameFault};
 use record_check::{Fault, Limit, check, check_config, judge, read_pair};
 use std::alloc::Global;
 use std::test::Fail;
-use test_cases::{Answers, first_wrong};
+use test_cases::{Answers, Wrong, each_line_holds};
 
 // A record, a config or a judgement in words.
 fn told<T>(alloc: Global, checked: &Result<T, Fault>) -> Result<String, Memory> {
@@ -117,10 +117,7 @@ cilium/state/nodes/v1/east/n1 {"Name":"n2","Cluster":"east","ClusterID":1} => Na
 
 #[test]
 fn a_node_is_answered_with_its_first_fault(rt: HostRuntime) -> Result<(), Fail> {
-    assert_eq!(rt;
-        first_wrong(&mut Checking::of_east(rt.alloc())?, rt.alloc(), NODES)?,
-        None
-    );
+    each_line_holds(&mut Checking::of_east(rt.alloc())?, rt.alloc(), NODES)?;
     Ok(())
 }
 
@@ -138,10 +135,7 @@ cilium/state/services/v1/east/shop/web {"cluster":"east","namespace":"shop","nam
 
 #[test]
 fn a_service_is_answered_with_its_first_fault(rt: HostRuntime) -> Result<(), Fail> {
-    assert_eq!(rt;
-        first_wrong(&mut Checking::of_east(rt.alloc())?, rt.alloc(), SERVICES)?,
-        None
-    );
+    each_line_holds(&mut Checking::of_east(rt.alloc())?, rt.alloc(), SERVICES)?;
     Ok(())
 }
 
@@ -159,10 +153,7 @@ cilium/state/identities/v1/id/255 k8s:app=web; => ClusterId
 
 #[test]
 fn an_identity_is_answered_with_its_first_fault(rt: HostRuntime) -> Result<(), Fail> {
-    assert_eq!(rt;
-        first_wrong(&mut Checking::of_east(rt.alloc())?, rt.alloc(), IDENTITIES)?,
-        None
-    );
+    each_line_holds(&mut Checking::of_east(rt.alloc())?, rt.alloc(), IDENTITIES)?;
     Ok(())
 }
 
@@ -185,10 +176,7 @@ cilium/state/ip/v1/default/fd00::d {"IP":"10.1.0.13","ID":2} => AddressKey
 
 #[test]
 fn an_address_is_answered_with_its_first_fault(rt: HostRuntime) -> Result<(), Fail> {
-    assert_eq!(rt;
-        first_wrong(&mut Checking::of_east(rt.alloc())?, rt.alloc(), ADDRESSES)?,
-        None
-    );
+    each_line_holds(&mut Checking::of_east(rt.alloc())?, rt.alloc(), ADDRESSES)?;
     Ok(())
 }
 
@@ -199,10 +187,7 @@ cilium/cuts/v1/east 4 => Key(UnknownPrefix)
 
 #[test]
 fn a_key_of_no_record_has_no_beginning_of_a_records_key(rt: HostRuntime) -> Result<(), Fail> {
-    assert_eq!(rt;
-        first_wrong(&mut Checking::of_east(rt.alloc())?, rt.alloc(), OTHER_KEYS)?,
-        None
-    );
+    each_line_holds(&mut Checking::of_east(rt.alloc())?, rt.alloc(), OTHER_KEYS)?;
     Ok(())
 }
 
@@ -217,10 +202,7 @@ cilium/state/nodes/v1/east/n1 {"Name":"n1","Cluster":"east","ClusterID":1} to 40
 
 #[test]
 fn a_value_has_at_most_32768_bytes(rt: HostRuntime) -> Result<(), Fail> {
-    assert_eq!(rt;
-        first_wrong(&mut Checking::of_east(rt.alloc())?, rt.alloc(), SIZES)?,
-        None
-    );
+    each_line_holds(&mut Checking::of_east(rt.alloc())?, rt.alloc(), SIZES)?;
     Ok(())
 }
 
@@ -231,9 +213,8 @@ west 8 => Cluster
 "#;
 
 #[test]
-fn what_was_read_is_judged_for_the_cluster_that_it_came_from(rt: HostRuntime) -> Result<(), Fail> {
-    assert_eq!(rt; first_wrong(&mut Judging, rt.alloc(), CLUSTERS)?, None);
-    Ok(())
+fn what_was_read_is_judged_for_the_cluster_that_it_came_from(rt: HostRuntime) -> Result<(), Wrong> {
+    each_line_holds(&mut Judging, rt.alloc(), CLUSTERS)
 }
 
 const CONFIGS: &str = r#"{"id":1} => ok
@@ -254,10 +235,6 @@ const CONFIGS: &str = r#"{"id":1} => ok
 "#;
 
 #[test]
-fn a_config_is_answered_with_its_first_fault(rt: HostRuntime) -> Result<(), Fail> {
-    assert_eq!(rt;
-        first_wrong(&mut CheckingConfigs, rt.alloc(), CONFIGS)?,
-        None
-    );
-    Ok(())
+fn a_config_is_answered_with_its_first_fault(rt: HostRuntime) -> Result<(), Wrong> {
+    each_line_holds(&mut CheckingConfigs, rt.alloc(), CONFIGS)
 }

@@ -5,7 +5,7 @@ use mesh_text::{ClusterName, NameFault};
 use std::alloc::Global;
 use std::test::Fail;
 use synced_marks::{cut_key, cut_value, is_synced, mark_key, read_cut};
-use test_cases::{Answers, first_wrong};
+use test_cases::{Answers, Wrong, each_line_holds};
 
 // The config that a word names, if it names one.
 fn config_of(word: &str) -> Option<ClusterConfig> {
@@ -48,9 +48,8 @@ const SOURCES: &str = "\
     canaries 1110 => false\n";
 
 #[test]
-fn a_source_is_synced_by_its_config_and_its_marks(rt: HostRuntime) -> Result<(), Fail> {
-    assert_eq!(rt; first_wrong(&mut Sources, rt.alloc(), SOURCES)?, None);
-    Ok(())
+fn a_source_is_synced_by_its_config_and_its_marks(rt: HostRuntime) -> Result<(), Wrong> {
+    each_line_holds(&mut Sources, rt.alloc(), SOURCES)
 }
 
 fn hop_of(word: &str) -> Hop {
@@ -101,10 +100,7 @@ const KEYS: &str = "\
 
 #[test]
 fn marks_and_cuts_have_their_keys(rt: HostRuntime) -> Result<(), Fail> {
-    assert_eq!(rt;
-        first_wrong(&mut Keys::of_east(rt.alloc())?, rt.alloc(), KEYS)?,
-        None
-    );
+    each_line_holds(&mut Keys::of_east(rt.alloc())?, rt.alloc(), KEYS)?;
     Ok(())
 }
 
@@ -132,7 +128,6 @@ const CUTS: &str = "\
     read 18446744073709551616 => None\n";
 
 #[test]
-fn a_cut_is_a_canonical_decimal(rt: HostRuntime) -> Result<(), Fail> {
-    assert_eq!(rt; first_wrong(&mut Cuts, rt.alloc(), CUTS)?, None);
-    Ok(())
+fn a_cut_is_a_canonical_decimal(rt: HostRuntime) -> Result<(), Wrong> {
+    each_line_holds(&mut Cuts, rt.alloc(), CUTS)
 }

@@ -6,8 +6,7 @@ use mesh_records::{
 use mesh_text::{Kind, escape, unescape};
 use std::alloc::Global;
 use std::fmt::Write;
-use std::test::Fail;
-use test_cases::{Answers, first_wrong};
+use test_cases::{Answers, Wrong, each_line_holds};
 
 #[derive(Drop)]
 enum Value {
@@ -180,9 +179,8 @@ node {"Name":"n1","Cluster":"east","ClusterID":1,"IPAddresses":[{"Type":"","IP":
 "#;
 
 #[test]
-fn a_node_is_refused_with_its_first_fault(rt: HostRuntime) -> Result<(), Fail> {
-    assert_eq!(rt; first_wrong(&mut Reading, rt.alloc(), NODES)?, None);
-    Ok(())
+fn a_node_is_refused_with_its_first_fault(rt: HostRuntime) -> Result<(), Wrong> {
+    each_line_holds(&mut Reading, rt.alloc(), NODES)
 }
 
 const ADDRESSES: &str =
@@ -203,9 +201,8 @@ address {"IP":"10.0.0.1","ID":1,"K8sPodName":false} => WrongType K8sPodName
 "#;
 
 #[test]
-fn an_address_is_refused_with_its_first_fault(rt: HostRuntime) -> Result<(), Fail> {
-    assert_eq!(rt; first_wrong(&mut Reading, rt.alloc(), ADDRESSES)?, None);
-    Ok(())
+fn an_address_is_refused_with_its_first_fault(rt: HostRuntime) -> Result<(), Wrong> {
+    each_line_holds(&mut Reading, rt.alloc(), ADDRESSES)
 }
 
 const SERVICES: &str =
@@ -226,9 +223,8 @@ service {"cluster":"east","namespace":"shop","name":"web","clusterID":1,"shared"
 "#;
 
 #[test]
-fn a_service_is_refused_with_its_first_fault(rt: HostRuntime) -> Result<(), Fail> {
-    assert_eq!(rt; first_wrong(&mut Reading, rt.alloc(), SERVICES)?, None);
-    Ok(())
+fn a_service_is_refused_with_its_first_fault(rt: HostRuntime) -> Result<(), Wrong> {
+    each_line_holds(&mut Reading, rt.alloc(), SERVICES)
 }
 
 const BACKENDS: &str = r#"backends [] => WrongType backends
@@ -252,9 +248,8 @@ backends {"10.0.0.1":{"http":{"Protocol":"TCP","Port":65536}}} => Range backends
 "#;
 
 #[test]
-fn backends_are_refused_with_their_first_fault(rt: HostRuntime) -> Result<(), Fail> {
-    assert_eq!(rt; first_wrong(&mut Reading, rt.alloc(), BACKENDS)?, None);
-    Ok(())
+fn backends_are_refused_with_their_first_fault(rt: HostRuntime) -> Result<(), Wrong> {
+    each_line_holds(&mut Reading, rt.alloc(), BACKENDS)
 }
 
 const ORDERED_BACKENDS: &str =
@@ -262,12 +257,8 @@ const ORDERED_BACKENDS: &str =
 "#;
 
 #[test]
-fn backends_come_in_order_of_address_and_port_name(rt: HostRuntime) -> Result<(), Fail> {
-    assert_eq!(rt;
-        first_wrong(&mut Offers, rt.alloc(), ORDERED_BACKENDS)?,
-        None
-    );
-    Ok(())
+fn backends_come_in_order_of_address_and_port_name(rt: HostRuntime) -> Result<(), Wrong> {
+    each_line_holds(&mut Offers, rt.alloc(), ORDERED_BACKENDS)
 }
 
 const LABELS: &str = r#"identity - => ok
@@ -282,9 +273,8 @@ identity k8s:app=web;; => Label { at: 12 }
 "#;
 
 #[test]
-fn labels_are_read_up_to_the_first_that_is_none(rt: HostRuntime) -> Result<(), Fail> {
-    assert_eq!(rt; first_wrong(&mut Reading, rt.alloc(), LABELS)?, None);
-    Ok(())
+fn labels_are_read_up_to_the_first_that_is_none(rt: HostRuntime) -> Result<(), Wrong> {
+    each_line_holds(&mut Reading, rt.alloc(), LABELS)
 }
 
 const CONFIGS: &str = r#"config {"id":4294967295} => ok
@@ -303,9 +293,8 @@ config {"id":1,"capabilities":{"maxConnectedClusters":4294967296}} => Range maxC
 "#;
 
 #[test]
-fn a_config_is_refused_with_its_first_fault(rt: HostRuntime) -> Result<(), Fail> {
-    assert_eq!(rt; first_wrong(&mut Reading, rt.alloc(), CONFIGS)?, None);
-    Ok(())
+fn a_config_is_refused_with_its_first_fault(rt: HostRuntime) -> Result<(), Wrong> {
+    each_line_holds(&mut Reading, rt.alloc(), CONFIGS)
 }
 
 const WRITTEN_CONFIGS: &str =
@@ -315,12 +304,8 @@ config {"capabilities":{"maxConnectedClusters":511,"cached":true},"id":0} => {"c
 "#;
 
 #[test]
-fn a_config_is_read_with_its_defaults_and_written_whole(rt: HostRuntime) -> Result<(), Fail> {
-    assert_eq!(rt;
-        first_wrong(&mut Writing, rt.alloc(), WRITTEN_CONFIGS)?,
-        None
-    );
-    Ok(())
+fn a_config_is_read_with_its_defaults_and_written_whole(rt: HostRuntime) -> Result<(), Wrong> {
+    each_line_holds(&mut Writing, rt.alloc(), WRITTEN_CONFIGS)
 }
 
 const WRITTEN_RECORDS: &str =
@@ -335,12 +320,8 @@ identity - => -
 "#;
 
 #[test]
-fn a_record_is_written_with_its_members_in_byte_order(rt: HostRuntime) -> Result<(), Fail> {
-    assert_eq!(rt;
-        first_wrong(&mut Writing, rt.alloc(), WRITTEN_RECORDS)?,
-        None
-    );
-    Ok(())
+fn a_record_is_written_with_its_members_in_byte_order(rt: HostRuntime) -> Result<(), Wrong> {
+    each_line_holds(&mut Writing, rt.alloc(), WRITTEN_RECORDS)
 }
 
 const DEPTHS: &str = r#"nested 100 => ok
@@ -350,9 +331,8 @@ nested 200 => Json
 "#;
 
 #[test]
-fn a_value_nests_up_to_127_deep(rt: HostRuntime) -> Result<(), Fail> {
-    assert_eq!(rt; first_wrong(&mut Reading, rt.alloc(), DEPTHS)?, None);
-    Ok(())
+fn a_value_nests_up_to_127_deep(rt: HostRuntime) -> Result<(), Wrong> {
+    each_line_holds(&mut Reading, rt.alloc(), DEPTHS)
 }
 
 const OTHER_BYTES: &str = r#"config {"id":1,"%FF":0} => Json
@@ -363,7 +343,6 @@ identity k8s:a=%FF; => ok
 "#;
 
 #[test]
-fn json_is_utf_8_and_labels_are_bytes(rt: HostRuntime) -> Result<(), Fail> {
-    assert_eq!(rt; first_wrong(&mut Reading, rt.alloc(), OTHER_BYTES)?, None);
-    Ok(())
+fn json_is_utf_8_and_labels_are_bytes(rt: HostRuntime) -> Result<(), Wrong> {
+    each_line_holds(&mut Reading, rt.alloc(), OTHER_BYTES)
 }

@@ -2,11 +2,11 @@
 -- Source: etcd's API, KV service (Range tells the revision that it lists), Watch service (a watch
 -- delivers every change from its start on, in order; one that starts in compacted history is refused).
 use Rattle.std.specs.Prelude.{◌≡◌, ℕ, ◌+◌, ◌≤◌, ◌<◌, min, List, map, true, false, Option, None, Some}
-use Rattle.store_api.specs.Advance.{listed_at, moved_to, closed}
 use Rattle.store_api.specs.Contents.{Contents, IsListing}
 use Rattle.store_api.specs.Followed.{part_of, parts}
-use Rattle.store_api.specs.History.{History, revision, entry_of, in_ranges, listing_at}
-use Rattle.store_api.specs.Spans.{Record, cursor_of}
+use Rattle.store_api.specs.Given.{gone_on_if}
+use Rattle.store_api.specs.History.{History, revision, in_ranges}
+use Rattle.store_api.specs.Spans.{Record}
 use Rattle.store_api.specs.declared.change.Batch.{Batch}
 use Rattle.store_api.specs.declared.change.Delivery.{Delivery}
 use Rattle.store_api.specs.declared.change.Delivery.TheVariants as delivery
@@ -47,27 +47,6 @@ delivery_of (turn.Compacted compacted) = Some delivery.Lost
 delivery_of turn.Lost = Some delivery.Lost
 delivery_of turn.NothingNew = None
 
--- what a delivery makes of a record: a listing is a new span, a batch makes the open one longer
-abbrev pub delivered : Delivery → Record → Record
-delivered (delivery.Listing listing) r = listed_at listing.at r
-delivered (delivery.Batch batch) r = moved_to batch.upto r
-delivered delivery.Lost r = closed r
-
-abbrev pub delivered_if : Option Delivery → Record → Record
-delivered_if None r = r
-delivered_if (Some d) r = delivered d r
-
 -- what a turn makes of a record
 abbrev pub followed : Turn → Record → Record
-followed t r = delivered_if (delivery_of t) r
-
--- the delivery is exactly this history's, for a reader with this record: all pairs of the ranges at
--- the listed revision, or all changes of them behind the open span and up to the batch's end
-abbrev pub Reads : List Range → History → Record → Delivery → Type 0
-Reads ranges history r (delivery.Listing listing) = (listing.at ≤ revision history) × (map entry_of listing.pairs ≡ listing_at ranges history listing.at)
-Reads ranges history r (delivery.Batch batch) = (r.is_open ≡ true) × (cursor_of r.spans ≤ batch.upto) × (batch.upto ≤ revision history) × (map part_of batch.revisions ≡ parts (in_ranges ranges) history (cursor_of r.spans) batch.upto)
-Reads ranges history r delivery.Lost = Unit {0}
-
-abbrev pub ReadsIf : List Range → History → Record → Option Delivery → Type 0
-ReadsIf ranges history r None = Unit {0}
-ReadsIf ranges history r (Some d) = Reads ranges history r d
+followed t r = gone_on_if (delivery_of t) r

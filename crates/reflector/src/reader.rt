@@ -1,12 +1,13 @@
 ghost use Rattle.std.specs.Prelude.{◌≡◌, ◌≢◌, ◌≤◌, ◌<◌, ◌^◌, ◌-◌, ℕ, List, true, false, IfOk, OnOk, OnErr, Ok, Err};
 ghost use Rattle.store_api.specs.Advance.{closed, turned};
 ghost use Rattle.store_api.specs.Contents.{unchanged};
+ghost use Rattle.store_api.specs.Given.{IsGivenIf};
 ghost use Rattle.store_api.specs.History.{revision};
 ghost use Rattle.store_api.specs.Meaning.{Keeps, Makes, MayMake};
-ghost use Rattle.store_api.specs.Spans.{Record, unread};
+ghost use Rattle.store_api.specs.Spans.{AreSpans, Record, unread};
 ghost use Rattle.reflector.specs.Crossing.{asked, end_of};
 ghost use Rattle.reflector.specs.Reader.{Stands};
-ghost use Rattle.reflector.specs.Turns.{IsAnswer, ReadsIf, after_turn, delivery_of, followed};
+ghost use Rattle.reflector.specs.Turns.{IsAnswer, after_turn, delivery_of, followed};
 
 use crate::turns::Turn;
 use mesh_base::Memory;
@@ -99,7 +100,12 @@ impl Reflector {
         // the call was lost; and the delivery is what the history has for a reader with that record.
         ensures stands { (r : Record) → Stands self.old r → IfOk result (λ turn. Stands self.new (followed turn r)) }
         ensures advance { (r : Record) → Stands self.old r → IfOk result (λ turn. turn ≢ Turn.Lost → followed turn r ≡ turned most (revision (S.meaning store.new).contents.history) (S.meaning store.new).contents.compacted r) }
-        ensures reads { (r : Record) → Stands self.old r → IfOk result (λ turn. ReadsIf self.old.ranges (S.meaning store.new).contents.history r (delivery_of turn)) }
+        ensures reads { (r : Record) → Stands self.old r → IfOk result (λ turn. IsGivenIf self.old.ranges (S.meaning store.new).contents.history r (delivery_of turn)) }
+
+        // Its spans go on in order. And where nobody took what was handed on, a reader that then loses
+        // its connection stands for the record that it had, closed.
+        ensures in_order { (r : Record) → Stands self.old r → AreSpans (revision (S.meaning store.old).contents.history) r.spans → IfOk result (λ turn. AreSpans (revision (S.meaning store.new).contents.history) (followed turn r).spans) }
+        ensures untaken { (r : Record) → Stands self.old r → AreSpans (revision (S.meaning store.old).contents.history) r.spans → OnOk result (Stands (record self.new { is_waiting = true }) (closed r)) }
 
         // No effect on the store.
         ensures made { IfOk result (λ turn. turn ≢ Turn.Lost → Makes (S.meaning store.old) (S.meaning store.new) unchanged) }

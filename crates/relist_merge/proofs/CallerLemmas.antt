@@ -1,17 +1,16 @@
 -- What the crates above may cite of views.
-use Rattle.std.proofs.Common.{◌≡◌, ℕ, ◌≤◌, List, [], ◌∷◌, ◌++◌, ◌||◌, ◌&&◌, length, map, Bool, true, false, cond, refl, ap, sym, ◌∙◌, subst, arith}
-use Rattle.store_api.specs.Advance.{listed_at, moved_to, closed}
-use Rattle.store_api.specs.Followed.{Followed, in_at, part_of, parts}
-use Rattle.store_api.specs.History.{History, Pairs, entry_of, in_ranges, listing_at, revision}
+use Rattle.std.proofs.Common.{◌≡◌, ℕ, ◌≤◌, List, [], ◌∷◌, ◌++◌, ◌||◌, ◌&&◌, map, Bool, true, false, cond, refl, ap, sym, ◌∙◌, subst, arith}
+use Rattle.store_api.specs.Followed.{Followed, in_at}
+use Rattle.store_api.specs.History.{History, Pairs, in_ranges, revision}
 use Rattle.store_api.specs.Spans.{Record, Span, cursor_of, is_last_up, is_met, is_up, seen, unread}
 use Rattle.store_api.specs.Spans as reader
-use Rattle.store_api.specs.declared.change.Batch.{Batch}
 use Rattle.store_api.specs.declared.change.Delivery as store
 use Rattle.store_api.specs.declared.change.Delivery.TheVariants as given
-use Rattle.store_api.specs.declared.change.Listing.{Listing}
 use Rattle.store_api.specs.declared.change.Range.{Range}
 use Rattle.relist_merge.specs.Deliveries.{Delivery, delivered, delivered_all, edits_of}
-use Rattle.relist_merge.specs.Given.{IsGiven, delivery_from, gone_on}
+use Rattle.store_api.specs.Given.{IsGiven, gone_on}
+use Rattle.store_api.proofs.CallerLemmas.{longer-le}
+use Rattle.relist_merge.specs.Given.{delivery_from}
 use Rattle.relist_merge.specs.Laws.{CaughtUpIsLive, CaughtUpWhereSynced, FollowsDeliveries, FollowsLonger}
 use Rattle.relist_merge.specs.Records.{AreWithin, phase_in}
 use Rattle.relist_merge.specs.View.{Follows, IsListOf, Reads, ReadsAll, View, is_caught_up, new_view, values, view_after, view_after_all}
@@ -60,30 +59,10 @@ follows_given ranges synced h r d v follows is =
     subst (λ (q : Record). Follows f h q (view_after f (delivery_from d) v)) (sym (gone_on-delivered d r))
     (follows_next f h r (delivery_from d) v follows (given_reads ranges synced h r d is))
 
--- whatever says the same of listings and batches says that the delivery is given
-pub given_as : (ranges : List Range) (h : History) (r : Record) (P : store.Delivery → Type 0)
-    → ((l : Listing) → P (given.Listing l) → (l.at ≤ revision h) × (map entry_of l.pairs ≡ listing_at ranges h l.at))
-    → ((b : Batch) → P (given.Batch b) → (r.is_open ≡ true) × (cursor_of r.spans ≤ b.upto) × (b.upto ≤ revision h) × (map part_of b.revisions ≡ parts (in_ranges ranges) h (cursor_of r.spans) b.upto))
-    → (d : store.Delivery) → P d → IsGiven ranges h r d
-given_as ranges h r P listing batch (given.Listing l) p = listing l p
-given_as ranges h r P listing batch (given.Batch b) p = batch b p
-given_as ranges h r P listing batch given.Lost p = tt
-
--- and whatever makes the same of a record by each of them
-pub gone_on_as : (g : store.Delivery → Record → Record) → ((l : Listing) (r : Record) → g (given.Listing l) r ≡ listed_at l.at r) → ((b : Batch) (r : Record) → g (given.Batch b) r ≡ moved_to b.upto r)
-    → ((r : Record) → g given.Lost r ≡ closed r) → (d : store.Delivery) (r : Record) → g d r ≡ gone_on d r
-gone_on_as g listing batch lost (given.Listing l) r = listing l r
-gone_on_as g listing batch lost (given.Batch b) r = batch b r
-gone_on_as g listing batch lost given.Lost r = lost r
-
 -- ---- a longer history
 still-within : (spans : List Span) (a b : ℕ) → a ≤ b → AreWithin a spans → AreWithin b spans
 still-within [] a b le within = within
 still-within (s ∷ older) a b le within = (within.0, omega (arith, within.1), still-within older a b le within.2)
-
-longer-le : {X : Type 0} (xs ys : List X) → length xs ≤ length (xs ++ ys)
-longer-le [] ys = omega arith
-longer-le (x ∷ xs) ys = omega (arith, longer-le xs ys)
 
 follows-longer : (f : Followed) (h more : History) (r : Record) (v : View) → Follows f h r v → Follows f (h ++ more) r v
 follows-longer f h more r v follows =

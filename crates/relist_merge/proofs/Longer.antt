@@ -1,29 +1,20 @@
 -- What was sighted in a history is sighted in each longer one.
-use Rattle.std.proofs.Common.{◌≡◌, ℕ, zero, suc, ◌+◌, ◌≤◌, ◌<◌, leb, List, [], ◌∷◌, ◌++◌, ◌||◌, ◌&&◌, Bool, true, false, cond, Option, None, is_some, length, get_or, refl, ap, ◌∙◌, arith}
+use Rattle.std.proofs.Common.{◌≡◌, ℕ, zero, suc, ◌+◌, ◌≤◌, leb, List, [], ◌∷◌, ◌++◌, ◌||◌, ◌&&◌, Bool, true, false, cond, Option, None, is_some, length, refl, ap, ◌∙◌, arith}
 use Rattle.std.proofs.Math.Path.{fun_ext}
 use Rattle.store_api.specs.History.{History, after_changes}
 use Rattle.store_api.specs.declared.change.Change.{Change}
 use Rattle.store_api.specs.History.{Pairs, changes_at, live_at}
 use Rattle.store_api.specs.Followed.{Followed, in_at, touches}
 use Rattle.store_api.specs.Spans.{Span, some_from, is_up, is_met, speaks, seen, cursor_of}
+use Rattle.store_api.proofs.CallerLemmas.{changes-longer}
 use Rattle.relist_merge.specs.Records.{AreWithin, phase_in}
 use Rattle.relist_merge.specs.declared.phase.Phase.TheVariants.{Held, CaughtUp}
 
-get_or-front : {X : Type 0} (xs ys : List X) (i : ℕ) (d : X) → i < length xs → get_or (xs ++ ys) i d ≡ get_or xs i d
-get_or-front [] ys i d lt = absurd (omega arith)
-get_or-front (x ∷ xs) ys zero d lt = refl
-get_or-front (x ∷ xs) ys (suc i) d lt = get_or-front xs ys i d (omega arith)
-
 module _ (h more : History) where
-  changes-longer : (x : ℕ) → x ≤ length h + 1 → changes_at (h ++ more) x ≡ changes_at h x
-  changes-longer zero le = refl
-  changes-longer (suc zero) le = refl
-  changes-longer (suc (suc i)) le = get_or-front h more i [] (omega arith)
-
   live-longer : (r : ℕ) (k : List ℕ) → r ≤ length h + 1 → live_at (h ++ more) r k ≡ live_at h r k
   live-longer zero k le = refl
   live-longer (suc r) k le =
-      ap (λ (cs : List Change). after_changes k (live_at (h ++ more) r k) cs) (changes-longer (suc r) le)
+      ap (λ (cs : List Change). after_changes k (live_at (h ++ more) r k) cs) (changes-longer h more (suc r) le)
       ∙ ap (λ (o : Option (List ℕ)). after_changes k o (changes_at h (suc r))) (live-longer r k (omega arith))
 
   module _ (f : Followed) where
@@ -44,7 +35,7 @@ module _ (h more : History) where
     speaks-longer s k order le =
         ap (λ (b : Bool). b || is_met f (h ++ more) s k) (up-longer s le)
         ∙ ap (λ (b : Bool). is_up f h s || (b || some_from (λ x. touches k (changes_at (h ++ more) x)) (s.start + 1) s.upto)) (ap (λ (m : Pairs). is_some (m k)) (in-longer s.start (omega arith)))
-        ∙ ap (λ (b : Bool). is_up f h s || (is_some (in_at f h s.start k) || b)) (same_some (λ x. touches k (changes_at (h ++ more) x)) (λ x. touches k (changes_at h x)) (s.start + 1) s.upto (λ x u. ap (touches k) (changes-longer x (omega arith))))
+        ∙ ap (λ (b : Bool). is_up f h s || (is_some (in_at f h s.start k) || b)) (same_some (λ x. touches k (changes_at (h ++ more) x)) (λ x. touches k (changes_at h x)) (s.start + 1) s.upto (λ x u. ap (touches k) (changes-longer h more x (omega arith))))
 
     -- the pairs sighted
     pub seen-longer : (spans : List Span) (k : List ℕ) → AreWithin (length h + 1) spans → seen f (h ++ more) spans k ≡ seen f h spans k

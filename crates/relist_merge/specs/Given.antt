@@ -1,11 +1,8 @@
 -- What a view is given, as plain data.
-use Rattle.std.specs.Prelude.{◌≡◌, ◌≤◌, ℕ, List, length, map, All, true, Some, None}
+use Rattle.std.specs.Prelude.{◌≡◌, ℕ, List, length, map, All, Some, None}
 use Rattle.std.specs.List.{sum_by}
-use Rattle.store_api.specs.Advance.{listed_at, moved_to, closed}
-use Rattle.store_api.specs.Followed.{part_of, parts}
-use Rattle.store_api.specs.History.{History, entry_of, in_ranges, listing_at, revision}
-use Rattle.store_api.specs.Spans.{Record, cursor_of}
-use Rattle.store_api.specs.declared.change.Range.{Range}
+use Rattle.store_api.specs.Followed.{part_of}
+use Rattle.store_api.specs.History.{entry_of}
 use Rattle.store_api.specs.declared.change.Delivery.TheVariants as given
 use Rattle.store_api.specs.declared.change.Delivery as store
 use Rattle.record_check.specs.declared.limit.Limit.{Limit}
@@ -62,16 +59,3 @@ abbrev pub rows_in : ReadDelivery → ℕ
 rows_in (read.Listing l) = length l.pairs
 rows_in (read.Batch b) = sum_by (λ (r : ReadRevision). length r.changes) b.revisions
 rows_in read.Lost = 0
-
--- the delivery is exactly the history's, for a reader of these ranges with this record: all their
--- pairs at one revision, or all changes of them behind the open span and up to the batch's end
-abbrev pub IsGiven : List Range → History → Record → store.Delivery → Type 0
-IsGiven ranges history r (given.Listing l) = (l.at ≤ revision history) × (map entry_of l.pairs ≡ listing_at ranges history l.at)
-IsGiven ranges history r (given.Batch b) = (r.is_open ≡ true) × (cursor_of r.spans ≤ b.upto) × (b.upto ≤ revision history) × (map part_of b.revisions ≡ parts (in_ranges ranges) history (cursor_of r.spans) b.upto)
-IsGiven ranges history r given.Lost = Unit {0}
-
--- the record after it: a listing is a new span, a batch makes the open one longer
-abbrev pub gone_on : store.Delivery → Record → Record
-gone_on (given.Listing l) r = listed_at l.at r
-gone_on (given.Batch b) r = moved_to b.upto r
-gone_on given.Lost r = closed r

@@ -14,7 +14,7 @@ use scenario_replay::{Status, fresh_stores, mesh_steps};
 use std::alloc::Global;
 use std::test::Fail;
 use store_api::{BytesSink, BytesSource, Sink, Source, StoreAdmin};
-use test_cases::{Answers, first_wrong};
+use test_cases::{Answers, Wrong, each_line_holds};
 
 // A node that is exported and read.
 const FIRST_NODE: &str = "mesh 1\n\
@@ -109,9 +109,8 @@ step mesh 1|local home 9|remote east 1 direct|repor => Scenario { line: 4, kind:
 ";
 
 #[test]
-fn other_words_and_texts_are_answered_by_a_line(rt: HostRuntime) -> Result<(), Fail> {
-    assert_eq!(rt; first_wrong(&mut Texts, rt.alloc(), TEXTS)?, None);
-    Ok(())
+fn other_words_and_texts_are_answered_by_a_line(rt: HostRuntime) -> Result<(), Wrong> {
+    each_line_holds(&mut Texts, rt.alloc(), TEXTS)
 }
 
 fn number(word: &str) -> u32 {
@@ -153,9 +152,8 @@ letters 32769 => Scenario { line: 4, kind: TooLong }|line 4 too_long|\n\
 ";
 
 #[test]
-fn a_raw_value_has_32_768_bytes_at_most(rt: HostRuntime) -> Result<(), Fail> {
-    assert_eq!(rt; first_wrong(&mut Lengths, rt.alloc(), VALUES)?, None);
-    Ok(())
+fn a_raw_value_has_32_768_bytes_at_most(rt: HostRuntime) -> Result<(), Wrong> {
+    each_line_holds(&mut Lengths, rt.alloc(), VALUES)
 }
 
 const INPUTS: &str =
@@ -164,9 +162,8 @@ newlines 16777217 => Scenario { line: 0, kind: TooLong }|line 0 too_long|\n\
 ";
 
 #[test]
-fn an_input_has_16_777_216_bytes_at_most(rt: HostRuntime) -> Result<(), Fail> {
-    assert_eq!(rt; first_wrong(&mut Lengths, rt.alloc(), INPUTS)?, None);
-    Ok(())
+fn an_input_has_16_777_216_bytes_at_most(rt: HostRuntime) -> Result<(), Wrong> {
+    each_line_holds(&mut Lengths, rt.alloc(), INPUTS)
 }
 
 /// What a replay of the first node by this word comes to, where the read and the write of these numbers fail.
@@ -207,9 +204,8 @@ steps 0 9 1000 => Usage|usage: step | check | generate <n> | run <probes>|\n\
 ";
 
 #[test]
-fn a_fault_of_the_outside_is_told(rt: HostRuntime) -> Result<(), Fail> {
-    assert_eq!(rt; first_wrong(&mut Streams, rt.alloc(), FAULTS)?, None);
-    Ok(())
+fn a_fault_of_the_outside_is_told(rt: HostRuntime) -> Result<(), Wrong> {
+    each_line_holds(&mut Streams, rt.alloc(), FAULTS)
 }
 
 /// The status and what is written, where the write of this number fails.
@@ -308,7 +304,6 @@ const LOSSES: &str = "0 before => Done|report 1|source east direct held 2|end|\n
 ";
 
 #[test]
-fn a_lost_call_of_a_store_is_no_refusal(rt: HostRuntime) -> Result<(), Fail> {
-    assert_eq!(rt; first_wrong(&mut Losses, rt.alloc(), LOSSES)?, None);
-    Ok(())
+fn a_lost_call_of_a_store_is_no_refusal(rt: HostRuntime) -> Result<(), Wrong> {
+    each_line_holds(&mut Losses, rt.alloc(), LOSSES)
 }

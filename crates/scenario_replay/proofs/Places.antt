@@ -1,11 +1,9 @@
 -- What the program is at, at each place, and when it is at a world again.
 use Rattle.std.proofs.Common.{◌≡◌, ℕ, zero, suc, ◌+◌, ◌<◌, List, [], ◌∷◌, length, drop, get_or, refl, ap, subst, arith}
 use Rattle.std.proofs.Math.ListN.{set}
-use Rattle.relist_merge.proofs.CallerLemmas.{follows_later}
-use Rattle.relist_merge.specs.Sight.{viewed}
 use Rattle.store_api.specs.Contents.{Contents}
+use Rattle.scenario_replay.proofs.Remotes.{read_later}
 use Rattle.store_api.specs.History.{Begins, History}
-use Rattle.scenario_replay.specs.Sources.{state_of}
 use Rattle.scenario_replay.specs.Shown.{AreShown, IsShown}
 use Rattle.scenario_replay.specs.World as world
 use Rattle.scenario_replay.specs.declared.remote.Remote.{Remote}
@@ -58,12 +56,7 @@ shown_over h later w r begins s = record {
   number = s.number;
   to_exporter = s.to_exporter;
   to_agent = s.to_agent;
-  agent = record {
-    ranges = s.agent.ranges;
-    stands = s.agent.stands;
-    source = s.agent.source;
-    follows = follows_later (state_of w.exporter.cluster) h later begins w.reader (viewed r.agent.view).shown s.agent.follows;
-  };
+  agent = read_later w.exporter.cluster h later w.reader r.agent begins s.agent;
 }
 
 -- one store goes on, and all remotes are shown as before

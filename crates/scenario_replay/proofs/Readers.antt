@@ -1,29 +1,33 @@
 -- What a turn of the agent's reader through a link was, and what it made of the reader and of the view.
-use Rattle.std.proofs.Common.{◌≡◌, ◌≢◌, ◌≤◌, ℕ, ◌+◌, leb, List, [], ◌∷◌, true, false, if◌then◌else◌, Option, None, Some, refl, sym, ap, subst, ◌∙◌, arith}
+use Rattle.std.proofs.Common.{◌≡◌, ◌≢◌, ◌≤◌, ℕ, ◌+◌, leb, List, [], ◌∷◌, Bool, true, false, Result, Ok, if◌then◌else◌, Option, None, Some, refl, sym, ap, subst, ◌∙◌, arith}
 use Rattle.std.proofs.lemmas.Bool.{le-leb, lt-leb}
 use Rattle.key_paths.specs.declared.hop.Hop.TheVariants.{State}
 use Rattle.key_paths.specs.Paths.{ranges_of}
 use Rattle.record_check.specs.declared.limit.Limit.TheVariants.{Small}
 use Rattle.exporter.specs.Crossed.{Does}
 use Rattle.store_api.specs.Advance.{turned}
+use Rattle.mesh_base.specs.declared.memory.Memory.{Memory}
 use Rattle.store_api.specs.Contents.{Contents, unchanged}
 use Rattle.store_api.specs.Crossing.{to_list, to_pull}
+use Rattle.store_api.specs.Followed.{Followed}
+use Rattle.store_api.specs.Given.{IsGiven, IsGivenIf, gone_on, gone_on_if}
 use Rattle.store_api.specs.History.{Begins, History, revision}
 use Rattle.store_api.specs.Meaning.{Meaning, Makes, MayMake}
-use Rattle.store_api.specs.Spans.{Record, Span, cursor_of}
+use Rattle.store_api.specs.Spans.{AreSpans, Record, Span, cursor_of}
 use Rattle.store_api.specs.declared.change.Delivery.{Delivery}
+use Rattle.store_api.specs.declared.change.Delivery.TheVariants as delivery
 use Rattle.reflector.specs.Crossing.{asked, end_of}
 use Rattle.reflector.specs.Reader.{Reader, Stands}
-use Rattle.reflector.specs.Turns.{IsAnswer, Reads, ReadsIf, after_turn, delivered, delivered_if, delivery_of, followed}
+use Rattle.reflector.specs.Turns.{IsAnswer, after_turn, delivery_of, followed}
 use Rattle.reflector.specs.declared.turns.Turn.{Turn}
 use Rattle.reflector.specs.declared.turns.Turn.TheVariants as turn
-use Rattle.relist_merge.specs.Given.{IsGiven, gone_on}
+use Rattle.relist_merge.specs.Given.{delivery_from}
 use Rattle.relist_merge.specs.Records.{AreWithin}
 use Rattle.relist_merge.specs.Sight.{viewed}
-use Rattle.relist_merge.specs.View.{Follows}
+use Rattle.relist_merge.specs.View.{Follows, View, view_after}
 use Rattle.relist_merge.specs.Viewed.{Source, Viewed}
 use Rattle.relist_merge.specs.Viewed as view
-use Rattle.relist_merge.proofs.CallerLemmas.{follows_later, given_as, gone_on_as}
+use Rattle.relist_merge.proofs.CallerLemmas.{follows_later}
 use Rattle.scenario_replay.specs.Actions as action
 use Rattle.scenario_replay.specs.Reads.{IsRead}
 use Rattle.scenario_replay.specs.Sources.{state_of}
@@ -88,13 +92,12 @@ module _ (cluster : List ℕ) (h later : History) (begins : Begins h later) (r :
   follows_none t none = rw none (follows_later (state_of cluster) h later begins r old.shown follows)
 
   -- where a delivery was
-  pub follows_some : (t : Turn) (d : Delivery) (new : Viewed) → delivery_of t ≡ Some d → ReadsIf (ranges_of cluster State) later r (delivery_of t) → Takes old new d → Follows (state_of cluster) later (followed t r) new.shown
+  pub follows_some : (t : Turn) (d : Delivery) (new : Viewed) → delivery_of t ≡ Some d → IsGivenIf (ranges_of cluster State) later r (delivery_of t) → Takes old new d → Follows (state_of cluster) later (followed t r) new.shown
   follows_some t d new some reads takes =
       let now : Follows (state_of cluster) later r old.shown = follows_later (state_of cluster) h later begins r old.shown follows in
-      let read : Reads (ranges_of cluster State) later r d = subst (λ (o : Option Delivery). ReadsIf (ranges_of cluster State) later r o) some reads in
-      let given : IsGiven (ranges_of cluster State) later r d = given_as (ranges_of cluster State) later r (λ (x : Delivery). Reads (ranges_of cluster State) later r x) (λ l p. p) (λ b p. p) d read in
+      let given : IsGiven (ranges_of cluster State) later r d = subst (λ (o : Option Delivery). IsGivenIf (ranges_of cluster State) later r o) some reads in
       let so = subst (λ (s : Source). (history : History) (q : Record) → Follows (view.followed s) history q old.shown → IsGiven (ranges_of s.cluster s.hop) history q d → Follows (view.followed s) history (gone_on d q) new.shown) source takes in
-      let on : followed t r ≡ gone_on d r = ap (λ (o : Option Delivery). delivered_if o r) some ∙ gone_on_as delivered (λ l q. refl) (λ b q. refl) (λ q. refl) d r in
+      let on : followed t r ≡ gone_on d r = ap (λ (o : Option Delivery). gone_on_if o r) some in
       subst (λ (q : Record). Follows (state_of cluster) later q new.shown) (sym on) (so later r now given)
 
 -- the cursor of a reader that does not wait is not beyond the history that it follows
@@ -104,14 +107,22 @@ cursor_within last (s ∷ older) within = within.1
 
 -- the agent's reader and view after a turn
 pub read_on : (most : ℕ) (cluster : List ℕ) (h : History) (c : Contents) (t : Turn) (r : Record) (old new : Agent) → IsRead cluster h r old
-    → new.reader ≡ after_turn t old.reader → Stands new.reader (followed t r) → (t ≢ turn.Lost → followed t r ≡ turned most (revision c.history) c.compacted r)
+    → new.reader ≡ after_turn t old.reader → Stands new.reader (followed t r) → (t ≢ turn.Lost → followed t r ≡ turned most (revision c.history) c.compacted r) → AreSpans (revision c.history) (followed t r).spans
     → (viewed new.view).source ≡ (viewed old.view).source → Follows (state_of cluster) c.history (followed t r) (viewed new.view).shown
     → IsRead cluster c.history (action.turned_by most (end_of t) c r) new
-read_on most cluster h c t r old new is reader stands advance source follows =
+read_on most cluster h c t r old new is reader stands advance spans source follows =
     let e : followed t r ≡ action.turned_by most (end_of t) c r = turned_so most c t r advance in
     record {
       ranges = ap (λ (x : Reader). x.ranges) reader ∙ same_ranges t old.reader ∙ is.ranges;
       stands = subst (λ (q : Record). Stands new.reader q) e stands;
+      spans = subst (λ (q : Record). AreSpans (revision c.history) q.spans) e spans;
       source = source ∙ is.source;
       follows = subst (λ (q : Record). Follows (state_of cluster) c.history q (viewed new.view).shown) e follows;
     }
+
+-- what a lost connection leaves of a view: all its entries
+pub lost_entries : (f : Followed) (d : Delivery) (old new : View) → d ≡ delivery.Lost → new ≡ view_after f (delivery_from d) old → new.entries ≡ old.entries
+lost_entries f d old new lost is = ap (λ (v : View). v.entries) (is ∙ ap (λ (x : Delivery). view_after f (delivery_from x) old) lost)
+
+pub ok_same : (a b : Bool) → ◌≡◌ {A = Result Bool Memory} (Ok a) (Ok b) → a ≡ b
+ok_same a b e = cc

@@ -1,5 +1,5 @@
 -- A remote of the program, and that of a world, after a call on its store.
-use Rattle.std.proofs.Common.{◌≡◌, ℕ, zero, suc, ◌+◌, ◌≤◌, List, true, false, not, if◌then◌else◌, refl, sym, ap, subst, ◌∙◌, inl, inr, ◌++◌, append_assoc}
+use Rattle.std.proofs.Common.{◌≡◌, ℕ, zero, suc, ◌+◌, ◌≤◌, List, Bool, true, false, not, if◌then◌else◌, refl, sym, ap, subst, ◌∙◌, inl, inr, ◌++◌, append_assoc}
 use Rattle.exporter.specs.Crossed.{commits}
 use Rattle.exporter.specs.State.{Export, after_item, after_items}
 use Rattle.exporter.proofs.CallerLemmas.{crosses_keep}
@@ -8,6 +8,7 @@ use Rattle.reflector.specs.Crossing as reader
 use Rattle.reflector.specs.Reader.{Reader, Stands}
 use Rattle.relist_merge.specs.Sight.{viewed}
 use Rattle.relist_merge.proofs.CallerLemmas.{follows_later}
+use Rattle.store_api.proofs.CallerLemmas.{later-revision, later_spans}
 use Rattle.store_api.specs.Contents.{Contents}
 use Rattle.store_api.specs.Crossing.{Request, Ending, Answers, Refuses, WantsMemory, IsLost, to_list, to_pull}
 use Rattle.store_api.specs.History.{Begins, History, revision}
@@ -84,17 +85,26 @@ pub read_later : (cluster : List ℕ) (h later : History) (r : Record) (a : Agen
 read_later cluster h later r a begins is = record {
   ranges = is.ranges;
   stands = is.stands;
+  spans = later_spans (revision h) (revision later) r.spans (later-revision h later begins) is.spans;
   source = is.source;
   follows = follows_later (state_of cluster) h later begins r (viewed a.view).shown is.follows;
 }
 
 -- the call of a reader is the one that its record asks for
 pub asks_same : (a : Reader) (r : Record) → Stands a r → reader.asked a ≡ asked r
-asks_same a r stands = rw (stands.waits, stands.cursor) (elim r.is_open as (λ b. (if not b then to_list else to_pull (cursor_of r.spans + 1)) ≡ (if b then to_pull (cursor_of r.spans + 1) else to_list)) [ true ↦ refl | false ↦ refl ])
+asks_same a r stands = rw stands.waits (asks r.is_open stands.cursor)
+  where
+    asks : (b : Bool) → (b ≡ true → a.cursor ≡ cursor_of r.spans) → (if not b then to_list else to_pull (a.cursor + 1)) ≡ (if b then to_pull (cursor_of r.spans + 1) else to_list)
+    asks true cursor = ap (λ (n : ℕ). to_pull (n + 1)) (cursor refl)
+    asks false cursor = refl
 
 -- a reader that does not wait is not ahead of its store
-pub there_for : (cluster : List ℕ) (h : History) (r : Record) (a : Agent) → IsRead cluster h r a → a.reader.cursor ≤ revision h
-there_for cluster h r a is = rw (is.stands.cursor) (cursor_within (revision h) r.spans is.follows.formed.0)
+pub there_for : (cluster : List ℕ) (h : History) (r : Record) (a : Agent) → IsRead cluster h r a → a.reader.is_waiting ≡ false → a.reader.cursor ≤ revision h
+there_for cluster h r a is runs = rw (is.stands.cursor (opens r.is_open (sym is.stands.waits ∙ runs))) (cursor_within (revision h) r.spans is.follows.formed.0)
+  where
+    opens : (b : Bool) → not b ≡ false → b ≡ true
+    opens true e = refl
+    opens false e = cc
 
 module _ (before after : Meaning) (w : world.Remote) (old new : Remote) (shown : IsShown before.contents.history w old) where
   -- the exporter and its link alone were changed

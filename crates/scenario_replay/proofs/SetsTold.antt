@@ -147,10 +147,10 @@ same_set name name' config config' pairs pairs' n c p = λ i. record { name = n 
 -- a source with the config and the records of the view has the record set that was sighted
 pub told_sighted : (name : List ℕ) (v : View) (pairs : Pairs) (config : ConfigSaid) → IsViewOf name v → IsListOf pairs (values (viewed v).shown.entries)
     → config ≡ option_map (checked_config Small) (values (viewed v).shown.entries (config_key name)) → IsToldOf v (told_by name pairs config)
-told_sighted own v pairs config is_own is said name history reader is_view follows =
+told_sighted own v pairs config is_own is said name history reader is_view sights =
     let named : own ≡ name = ap (λ (s : viewed.Source). s.cluster) (sym is_own ∙ is_view) in
     let set : Pairing = seen_set (state_of name) history reader.spans in
-    let sighted : (q : List ℕ) → finite.get set q ≡ values (viewed v).shown.entries q = λ q. get-seen_set (state_of name) history _ reader.spans q follows.formed.0 ∙ sym (follows.sighted.entries q) in
+    let sighted : (q : List ℕ) → finite.get set q ≡ values (viewed v).shown.entries q = λ q. get-seen_set (state_of name) history _ reader.spans q sights.within ∙ sym (sights.entries q) in
     same_set own name config _ _ _ named
     (said ∙ ap (λ (k : List ℕ). option_map (checked_config Small) (values (viewed v).shown.entries (config_key k))) named ∙ ap (option_map (checked_config Small)) (sym (sighted (config_key name))))
     (ap (λ (k : List ℕ). entries (readings (map entry_of (flat_map (told_of State k) pairs)))) named ∙ entries_told name pairs set (λ q. is.values q ∙ sym (sighted q)))

@@ -8,13 +8,14 @@ use Rattle.exporter.specs.State.{Export}
 use Rattle.key_paths.specs.declared.hop.Hop.TheVariants.{State}
 use Rattle.record_check.specs.declared.limit.Limit.TheVariants.{Small}
 use Rattle.relist_merge.specs.Sight.{viewed}
+use Rattle.relist_merge.specs.View.{Entries, values}
 use Rattle.relist_merge.specs.Viewed as viewed
 use Rattle.shared_tables.specs.Merge.{IsMerge}
 use Rattle.shared_tables.specs.Told.{SourceTold, Told, changed_at, nothing_told, set_told, sets, told, with_nothing}
 use Rattle.shared_tables.specs.declared.rows.Report.{Report}
 use Rattle.shared_tables.specs.declared.tables.Tables.{Tables}
 use Rattle.store_api.specs.Contents.{Contents}
-use Rattle.scenario_replay.specs.Rows.{AreMarked, AreSources, HasTables, IsOwnView, IsSource, IsToldOf, IsViewOf, TellsSource}
+use Rattle.scenario_replay.specs.Rows.{AreMarked, AreSources, HasEntriesOf, HasTables, IsOwnView, IsSource, IsToldOf, IsViewOf, TellsSource}
 use Rattle.scenario_replay.specs.Shown.{AreShown}
 use Rattle.scenario_replay.specs.Sources.{of_each, sighted_set}
 use Rattle.scenario_replay.specs.World as world
@@ -50,22 +51,34 @@ tables_new local number names rs sighting is named none own = record {
       (subst (λ (ts : List Bool). AreSources ts rs (map nothing_told (map cluster_of rs))) (sym none) (new_sources rs own));
 }
 
--- ---- a remote of which the agent views what it did
-kept_sources : (ts : List Bool) (rs : List Remote) (ss : List SourceTold) (place : ℕ) (r d : Remote) → r.agent.view ≡ (get_or rs place d).agent.view → AreSources ts rs ss → AreSources ts (set rs place r) ss
+-- ---- a remote of which the agent has sighted what it did
+source_kept : (t : Bool) (old new : View) (s : SourceTold) → HasEntriesOf old new → IsSource t old s → IsSource t new s
+source_kept t old new s same is = record {
+  view = same.source ∙ is.view;
+  told = λ e name history reader own sights. is.told e name history reader (sym same.source ∙ own)
+      (record { within = sights.within; entries = λ k. ap (λ (es : Entries). values es k) (sym same.entries) ∙ sights.entries k });
+}
+
+kept_sources : (ts : List Bool) (rs : List Remote) (ss : List SourceTold) (place : ℕ) (r d : Remote) → HasEntriesOf (get_or rs place d).agent.view r.agent.view → AreSources ts rs ss → AreSources ts (set rs place r) ss
 kept_sources [] [] [] place r d same are = tt
-kept_sources (t ∷ ts) (q ∷ rs) (s ∷ ss) zero r d same are = (subst (λ (v : View). IsSource t v s) (sym same) are.0, are.1)
+kept_sources (t ∷ ts) (q ∷ rs) (s ∷ ss) zero r d same are = (source_kept t q.agent.view r.agent.view s same are.0, are.1)
 kept_sources (t ∷ ts) (q ∷ rs) (s ∷ ss) (suc place) r d same are = (are.0, kept_sources ts rs ss place r d same are.1)
 kept_sources [] [] (s ∷ ss) place r d same are = absurd are
 kept_sources [] (q ∷ rs) ss place r d same are = absurd are
 kept_sources (t ∷ ts) [] ss place r d same are = absurd are
 kept_sources (t ∷ ts) (q ∷ rs) [] place r d same are = absurd are
 
-pub kept_tables : (number : ℕ) (rs : List Remote) (sighting : Sighting) (place : ℕ) (old new : Remote) → old ≡ get_or rs place old → new.agent.view ≡ old.agent.view → HasTables number rs sighting → HasTables number (set rs place new) sighting
-kept_tables number rs sighting place old new is same has = record {
+pub same_tables : (number : ℕ) (rs : List Remote) (sighting : Sighting) (place : ℕ) (old new : Remote) → old ≡ get_or rs place old → HasEntriesOf old.agent.view new.agent.view → HasTables number rs sighting → HasTables number (set rs place new) sighting
+same_tables number rs sighting place old new is same has = record {
   number_is = has.number_is;
   limit = has.limit;
-  sources = kept_sources sighting.told.items rs (told sighting.tables).sources place new old (same ∙ ap (λ (r : Remote). r.agent.view) is) has.sources;
+  sources = kept_sources sighting.told.items rs (told sighting.tables).sources place new old (subst (λ (r : Remote). HasEntriesOf r.agent.view new.agent.view) is same) has.sources;
 }
+
+-- it views what it did
+pub kept_tables : (number : ℕ) (rs : List Remote) (sighting : Sighting) (place : ℕ) (old new : Remote) → old ≡ get_or rs place old → new.agent.view ≡ old.agent.view → HasTables number rs sighting → HasTables number (set rs place new) sighting
+kept_tables number rs sighting place old new is same =
+    same_tables number rs sighting place old new is (record { source = ap (λ (v : View). (viewed v).source) same; entries = ap (λ (v : View). (viewed v).shown.entries) same })
 
 -- ---- a remote of which it may have sighted more
 changed_sources : (ts : List Bool) (rs : List Remote) (ss : List SourceTold) (place : ℕ) (r d : Remote) → (viewed r.agent.view).source ≡ (viewed (get_or rs place d).agent.view).source → AreSources ts rs ss → AreSources (set ts place false) (set rs place r) ss
@@ -165,7 +178,7 @@ marked_more (suc n) (t ∷ ts) lt marked = (marked.0, marked_more n ts (omega (a
 sets_sighted : (ts : List Bool) (rs : List Remote) (ss : List SourceTold) (stores : List Contents) (ws : List world.Remote) → AreMarked (length rs) ts → AreSources ts rs ss → AreShown stores ws rs
     → map set_told ss ≡ of_each sighted_set stores ws
 sets_sighted [] [] [] stores [] marked are shown = refl
-sets_sighted (t ∷ ts) (r ∷ rs) (s ∷ ss) (c ∷ stores) (w ∷ ws) marked are shown = λ i. are.0.told marked.0 w.exporter.cluster c.history w.reader shown.0.agent.source shown.0.agent.follows i ∷ sets_sighted ts rs ss stores ws marked.1 are.1 shown.1 i
+sets_sighted (t ∷ ts) (r ∷ rs) (s ∷ ss) (c ∷ stores) (w ∷ ws) marked are shown = λ i. are.0.told marked.0 w.exporter.cluster c.history w.reader shown.0.agent.source (record { within = shown.0.agent.follows.formed.0; entries = shown.0.agent.follows.sighted.entries }) i ∷ sets_sighted ts rs ss stores ws marked.1 are.1 shown.1 i
 sets_sighted [] [] (s ∷ ss) stores ws marked are shown = absurd are
 sets_sighted [] (r ∷ rs) ss stores ws marked are shown = absurd are
 sets_sighted (t ∷ ts) [] ss stores ws marked are shown = absurd are

@@ -8,8 +8,8 @@ use Rattle.relist_merge.specs.Sight.{viewed}
 use Rattle.relist_merge.specs.View.{Follows}
 use Rattle.store_api.specs.Contents.{Contents}
 use Rattle.store_api.specs.Crossing.{Ending}
-use Rattle.store_api.specs.History.{History}
-use Rattle.store_api.specs.Spans.{Record}
+use Rattle.store_api.specs.History.{History, revision}
+use Rattle.store_api.specs.Spans.{AreSpans, Record}
 use Rattle.scenario_replay.specs.Actions.{turned_by}
 use Rattle.scenario_replay.specs.Sources.{state_of}
 use Rattle.scenario_replay.specs.declared.agent.Agent.{Agent}
@@ -18,6 +18,7 @@ use Rattle.scenario_replay.specs.declared.agent.Agent.{Agent}
 pub record IsRead (cluster : List ℕ) (history : History) (r : Record) (a : Agent) : Type 0 where
   pub ranges : a.reader.ranges ≡ ranges_of cluster State
   pub stands : Stands a.reader r
+  pub spans : AreSpans (revision history) r.spans
   pub source : (viewed a.view).source ≡ record { cluster = cluster; hop = State; limit = Small }
   pub follows : Follows (state_of cluster) history r (viewed a.view).shown
 

@@ -6,15 +6,16 @@ use Rattle.mesh_base.specs.Order.{same_bytes}
 use Rattle.key_paths.specs.declared.hop.Hop.TheVariants.{State}
 use Rattle.record_check.specs.declared.limit.Limit.TheVariants.{Small}
 use Rattle.relist_merge.specs.Sight.{viewed}
-use Rattle.relist_merge.specs.View.{Follows}
+use Rattle.relist_merge.specs.Records.{AreWithin}
+use Rattle.relist_merge.specs.View.{values}
 use Rattle.relist_merge.specs.declared.view.View.{View}
 use Rattle.relist_merge.specs.declared.telling.ReadRecord.{ReadRecord}
 use Rattle.shared_tables.specs.RecordSets.{Reading}
 use Rattle.shared_tables.specs.Told.{IsRow, SourceTold, Told, changed_at, readings, set_told, told}
 use Rattle.shared_tables.specs.declared.change.RecordChange.{RecordChange}
 use Rattle.shared_tables.specs.declared.change.Row.{Row}
-use Rattle.store_api.specs.History.{History}
-use Rattle.store_api.specs.Spans.{Record}
+use Rattle.store_api.specs.History.{History, revision}
+use Rattle.store_api.specs.Spans.{Record, Span, seen}
 use Rattle.scenario_replay.specs.Sources.{sighted_set, state_of}
 use Rattle.scenario_replay.specs.declared.remote.Remote.{Remote}
 use Rattle.scenario_replay.specs.declared.replay.Replay.{Replay}
@@ -57,9 +58,19 @@ IsViewOf name v = (viewed v).source ≡ record { cluster = name; hop = State; li
 abbrev pub IsOwnView : Remote → Type 0
 IsOwnView r = IsViewOf r.exporter.cluster r.agent.view
 
--- the record set of the source is what the view has sighted, by every history and record that it follows
+-- the values of the view's entries are what was sighted of the cluster along these spans of its history
+pub record Sights (name : List ℕ) (history : History) (spans : List Span) (v : View) : Type 0 where
+  pub within : AreWithin (revision history) spans
+  pub entries : (k : List ℕ) → values (viewed v).shown.entries k ≡ seen (state_of name) history spans k
+
+-- the record set of the source is what was sighted, by every history and record of which the view shows that
 abbrev pub IsToldOf : View → SourceTold → Type 0
-IsToldOf v s = (name : List ℕ) (history : History) (reader : Record) → IsViewOf name v → Follows (state_of name) history reader (viewed v).shown → set_told s ≡ sighted_set name history reader
+IsToldOf v s = (name : List ℕ) (history : History) (reader : Record) → IsViewOf name v → Sights name history reader.spans v → set_told s ≡ sighted_set name history reader
+
+-- the view is of the same source as another, and has its entries
+pub record HasEntriesOf (old new : View) : Type 0 where
+  pub source : (viewed new).source ≡ (viewed old).source
+  pub entries : (viewed new).shown.entries ≡ (viewed old).shown.entries
 
 -- the source at the place is told what was sighted of its cluster
 pub record TellsSource (place : ℕ) (v : View) (old new : Told) : Type 0 where

@@ -77,7 +77,7 @@ impl Replay {
     }
 
     // One turn of the agent's reader. What it lists is told to the tables at once, and what it pulls at
-    // the next report.
+    // the next report. A turn that reads nothing leaves what they were told.
     fn turn<S: StoreAdmin>(
         &mut self,
         alloc: Global,

@@ -4,6 +4,7 @@ ghost use Rattle.flaky_link.specs.Link.{linked, loans_of};
 ghost use Rattle.store_api.specs.History.{History, revision};
 ghost use Rattle.store_api.specs.Meaning.{Keeps};
 ghost use Rattle.store_api.specs.Spans.{unread};
+ghost use Rattle.store_api.specs.declared.change.Delivery.TheVariants.{Lost};
 ghost use Rattle.reflector.specs.Crossing.{asked};
 ghost use Rattle.relist_merge.specs.Sight.{viewed};
 ghost use Rattle.scenario_replay.specs.Reads.{IsRead, IsTurned};
@@ -17,7 +18,7 @@ use record_check::Limit;
 use reflector::{Reflector, delivery};
 use relist_merge::View;
 use std::alloc::Global;
-use store_api::Store;
+use store_api::{Delivery, Store};
 
 /// The agent's reader of a remote's store, and the view of what it has sighted there.
 #[derive(Drop)]
@@ -39,8 +40,18 @@ impl Agent {
     }
 }
 
+// Whether pairs were read, and no connection lost.
+fn is_read(delivery: &Delivery) -> bool
+    ensures { result ≡ false → delivery.now ≡ Lost }
+{
+    match delivery {
+        Delivery::Listing(_) | Delivery::Batch(_) => true,
+        Delivery::Lost => false,
+    }
+}
+
 impl Agent {
-    // One turn of the reader over the link, and what it handed on into the view; whether that was anything.
+    // One turn of the reader over the link, and what it handed on into the view; whether pairs were read.
     fn turn_over<S: Store>(
         &mut self,
         alloc: Global,
@@ -50,7 +61,7 @@ impl Agent {
         requires some { 1 ≤ most }
         requires there { self.old.reader.is_waiting ≡ false → self.old.reader.cursor ≤ revision (S.meaning link.old.store.now).contents.history }
         ensures source { (viewed self.new.view).source ≡ (viewed self.old.view).source }
-        ensures nothing { result ≡ Ok false → self.new.view ≡ self.old.view }
+        ensures nothing { result ≡ Ok false → (viewed self.new.view).shown.entries ≡ (viewed self.old.view).shown.entries }
         ensures took { OnOk result (Took (asked self.old.reader) (IsTurned most (S.meaning link.old.store.now).contents.history self.old self.new) (link.old.state.now, S.meaning link.old.store.now) (link.new.state.now, S.meaning link.new.store.now)) }
         ensures keeps { Keeps (linked link.old.state.now (S.meaning link.old.store.now)) (linked link.new.state.now (S.meaning link.new.store.now)) }
         ensures named { S.name link.new.store.now ≡ S.name link.old.store.now }
@@ -59,8 +70,9 @@ impl Agent {
         let turn = self.reader.turn(alloc, link, most)?;
         match delivery(turn) {
             Some(delivery) => {
+                let reads = is_read(&delivery);
                 self.view.follow(alloc, delivery)?;
-                Ok(true)
+                Ok(reads)
             }
             None => Ok(false),
         }
@@ -69,8 +81,8 @@ impl Agent {
     /// One turn of at most so many revisions over the store, through the link.
     ///
     /// A reader that waits lists, and another pulls what is behind its cursor; what it is handed goes
-    /// into the view. After a lost call and a compaction it waits. The answer says whether it was handed
-    /// anything: where not, the view is as it was. `Memory` leaves the turn half made.
+    /// into the view. After a lost call and a compaction it waits. The answer says whether pairs were read:
+    /// where not, the view has the entries that it had. `Memory` leaves the turn half made.
     pub fn turn<S: Store>(
         &mut self,
         alloc: Global,
@@ -81,7 +93,7 @@ impl Agent {
         requires some { 1 ≤ most }
         requires there { self.old.reader.is_waiting ≡ false → self.old.reader.cursor ≤ revision (S.meaning store.old).contents.history }
         ensures source { (viewed self.new.view).source ≡ (viewed self.old.view).source }
-        ensures nothing { result ≡ Ok false → self.new.view ≡ self.old.view }
+        ensures nothing { result ≡ Ok false → (viewed self.new.view).shown.entries ≡ (viewed self.old.view).shown.entries }
         ensures took { OnOk result (Took (asked self.old.reader) (IsTurned most (S.meaning store.old).contents.history self.old self.new) (link.old, S.meaning store.old) (link.new, S.meaning store.new)) }
         ensures named { S.name store.new ≡ S.name store.old }
         ensures loans { S.loans store.new ≡ S.loans store.old }

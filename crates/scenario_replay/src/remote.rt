@@ -91,8 +91,8 @@ impl Remote {
         exporters::export(&mut self.exporter, &mut self.to_exporter, store, most)
     }
 
-    /// One turn of the agent's reader, of at most so many revisions; the answer says whether the agent was
-    /// handed anything.
+    /// One turn of the agent's reader, of at most so many revisions; the answer says whether pairs were
+    /// read.
     pub fn turn<S: Store>(
         &mut self,
         alloc: Global,
@@ -103,7 +103,7 @@ impl Remote {
         requires shown { IsSome (S.meaning store.old).contents.history self.old }
         ensures asks { OnOk result (Asks link.Agent (λ w. asked w.reader) (λ end contents. with_reader (turned_by most end contents)) self.old self.new (S.meaning store.old) (S.meaning store.new)) }
         ensures source { (viewed self.new.agent.view).source ≡ (viewed self.old.agent.view).source }
-        ensures nothing { result ≡ Ok false → self.new.agent.view ≡ self.old.agent.view }
+        ensures nothing { result ≡ Ok false → (viewed self.new.agent.view).shown.entries ≡ (viewed self.old.agent.view).shown.entries }
         ensures named { S.name store.new ≡ S.name store.old }
         ensures loans { S.loans store.new ≡ S.loans store.old }
     {

@@ -3,6 +3,7 @@ pub mod Attached
 pub mod Contents
 pub mod Crossing
 pub mod Followed
+pub mod Given
 pub mod History
 pub mod Laws
 pub mod Leases

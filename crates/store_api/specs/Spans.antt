@@ -1,7 +1,7 @@
 -- What a reader has sighted of a history, by the spans of it that the reader followed.
 -- Source: etcd's API, Watch service (a watch from a revision delivers every change once, in order);
 -- Cilium's ClusterMesh documentation (after a reconnection earlier entries stay until synced).
-use Rattle.std.specs.Prelude.{ℕ, zero, suc, ◌+◌, leb, List, [], ◌∷◌, ◌||◌, ◌&&◌, Bool, false, if◌then◌else◌, None, is_some}
+use Rattle.std.specs.Prelude.{ℕ, zero, suc, ◌+◌, ◌≤◌, leb, List, [], ◌∷◌, ◌||◌, ◌&&◌, Bool, false, if◌then◌else◌, None, is_some}
 use Rattle.store_api.specs.History.{History, Pairs, changes_at}
 use Rattle.store_api.specs.Followed.{Followed, in_at, touches}
 
@@ -14,6 +14,12 @@ pub record Span : Type 0 where
 pub record Record : Type 0 where
   pub spans : List Span
   pub is_open : Bool
+
+-- the spans lie in order up to this revision: each ends no earlier than it starts, and starts no
+-- earlier than the one before it ended
+abbrev pub AreSpans : ℕ → List Span → Type 0
+AreSpans last [] = Unit {0}
+AreSpans last (s ∷ older) = (s.upto ≤ last) × (s.start ≤ s.upto) × AreSpans s.start older
 
 -- some number from a to r passes
 abbrev pub some_from : (ℕ → Bool) → ℕ → ℕ → Bool

@@ -1,4 +1,4 @@
-ghost use Rattle.store_api.specs.Laws.{AttachedAreLive, ReadingsAgree};
+ghost use Rattle.store_api.specs.Laws.{AttachedAreLive, GivenLater, ReadingsAgree};
 
 /// What is live in a history is the same by the last change of each key and by the finite map that
 /// all changes make.
@@ -9,4 +9,9 @@ pub fn readings_agree()
 /// A key is attached to a lease only while it is live.
 pub fn attached_are_live()
     ensures { AttachedAreLive }
+{}
+
+/// What a history gave a reader, each later one gives too.
+pub fn given_later()
+    ensures { GivenLater }
 {}

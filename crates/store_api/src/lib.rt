@@ -17,7 +17,7 @@ mod streams;
 pub use adapters::{ReaderSource, WriterSink};
 pub use change::{Batch, Change, Delivery, Listing, Op, Pair, Range, Ranges, Revision, StoreFault};
 pub use in_memory::{BytesSink, BytesSource};
-pub use laws::{attached_are_live, readings_agree};
+pub use laws::{attached_are_live, given_later, readings_agree};
 pub use mesh_base::{Bytes, Items, Memory};
 pub use store::{MAX_OPS, Store, StoreAdmin};
 pub use streams::{Failed, Sink, Source};

@@ -9,7 +9,7 @@ use record_values::{AddressRecord, Record};
 use std::alloc::Global;
 use std::test::Fail;
 use store_api::{Change, Revision, Store};
-use test_cases::{Answers, first_wrong};
+use test_cases::{Answers, each_line_holds};
 
 // An exporter of the cluster `east`, with its store behind a link. `declare N IDENTITY` and
 // `withdraw N` are for the address 10.0.0.N; `start`, `stop`, `keep`, `export MOST` and `export all`
@@ -149,9 +149,10 @@ impl Answers for Exporting {
     }
 }
 
-fn first_wrong_of_exporter(alloc: Global, lines: &str) -> Result<Option<String>, Fail> {
+fn each_line_of_an_exporter_holds(alloc: Global, lines: &str) -> Result<(), Fail> {
     let mut exporting = Exporting::of_east(alloc)?;
-    Ok(first_wrong(&mut exporting, alloc, lines)?)
+    each_line_holds(&mut exporting, alloc, lines)?;
+    Ok(())
 }
 
 const WAITING: &str = r#"declare 0 256 => done
@@ -172,8 +173,7 @@ revision 9 => none
 
 #[test]
 fn a_key_waits_once_and_takes_the_last_value(rt: HostRuntime) -> Result<(), Fail> {
-    assert_eq!(rt; first_wrong_of_exporter(rt.alloc(), WAITING)?, None);
-    Ok(())
+    each_line_of_an_exporter_holds(rt.alloc(), WAITING)
 }
 
 const WITHDRAWN: &str = r#"declare 0 256 => done
@@ -191,8 +191,7 @@ revision 7 => none
 
 #[test]
 fn a_record_withdrawn_while_it_waits_is_deleted_in_its_turn(rt: HostRuntime) -> Result<(), Fail> {
-    assert_eq!(rt; first_wrong_of_exporter(rt.alloc(), WITHDRAWN)?, None);
-    Ok(())
+    each_line_of_an_exporter_holds(rt.alloc(), WITHDRAWN)
 }
 
 const DECLARED_LATE: &str = r#"declare 0 256 => done
@@ -213,8 +212,7 @@ revision 9 => none
 
 #[test]
 fn a_record_declared_during_an_export_comes_behind_the_marks(rt: HostRuntime) -> Result<(), Fail> {
-    assert_eq!(rt; first_wrong_of_exporter(rt.alloc(), DECLARED_LATE)?, None);
-    Ok(())
+    each_line_of_an_exporter_holds(rt.alloc(), DECLARED_LATE)
 }
 
 const LAPSED: &str = r#"declare 0 256 => done
@@ -235,8 +233,7 @@ revision 4 => none
 
 #[test]
 fn a_lease_that_lapsed_stops_the_exporter(rt: HostRuntime) -> Result<(), Fail> {
-    assert_eq!(rt; first_wrong_of_exporter(rt.alloc(), LAPSED)?, None);
-    Ok(())
+    each_line_of_an_exporter_holds(rt.alloc(), LAPSED)
 }
 
 const LOST_BEFORE: &str = r#"declare 0 256 => done
@@ -270,9 +267,8 @@ revision 9 => none
 
 #[test]
 fn a_lost_commit_leaves_its_item_in_front(rt: HostRuntime) -> Result<(), Fail> {
-    assert_eq!(rt; first_wrong_of_exporter(rt.alloc(), LOST_BEFORE)?, None);
-    assert_eq!(rt; first_wrong_of_exporter(rt.alloc(), LOST_AFTER)?, None);
-    Ok(())
+    each_line_of_an_exporter_holds(rt.alloc(), LOST_BEFORE)?;
+    each_line_of_an_exporter_holds(rt.alloc(), LOST_AFTER)
 }
 
 const STARTED_AGAIN: &str = r#"declare 0 256 => done
@@ -297,6 +293,5 @@ revision 10 => none
 
 #[test]
 fn a_start_over_a_running_exporter_forgets_what_was_withdrawn(rt: HostRuntime) -> Result<(), Fail> {
-    assert_eq!(rt; first_wrong_of_exporter(rt.alloc(), STARTED_AGAIN)?, None);
-    Ok(())
+    each_line_of_an_exporter_holds(rt.alloc(), STARTED_AGAIN)
 }

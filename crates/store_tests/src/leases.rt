@@ -2,8 +2,7 @@
 use lease_clock::Leases;
 use mesh_base::Memory;
 use std::alloc::Global;
-use std::test::Fail;
-use test_cases::{Answers, first_wrong};
+use test_cases::{Answers, Wrong, each_line_holds};
 
 #[derive(Drop)]
 struct Table {
@@ -46,11 +45,11 @@ impl Answers for Table {
     }
 }
 
-fn first_wrong_of_table(alloc: Global, lines: &str) -> Result<Option<String>, Memory> {
+fn each_line_of_a_table_holds(alloc: Global, lines: &str) -> Result<(), Wrong> {
     let mut table = Table {
         leases: Leases::new(alloc),
     };
-    first_wrong(&mut table, alloc, lines)
+    each_line_holds(&mut table, alloc, lines)
 }
 
 const DUE_AT_THE_DEADLINE: &str = "\
@@ -73,12 +72,8 @@ due => [1]
 ";
 
 #[test]
-fn a_lease_is_due_at_its_deadline_and_not_before(rt: HostRuntime) -> Result<(), Fail> {
-    assert_eq!(rt;
-        first_wrong_of_table(rt.alloc(), DUE_AT_THE_DEADLINE)?,
-        None
-    );
-    Ok(())
+fn a_lease_is_due_at_its_deadline_and_not_before(rt: HostRuntime) -> Result<(), Wrong> {
+    each_line_of_a_table_holds(rt.alloc(), DUE_AT_THE_DEADLINE)
 }
 
 const DUE_TOGETHER: &str = "\
@@ -91,9 +86,8 @@ due => [2, 3, 1]
 ";
 
 #[test]
-fn leases_due_together_come_by_deadline_and_then_number(rt: HostRuntime) -> Result<(), Fail> {
-    assert_eq!(rt; first_wrong_of_table(rt.alloc(), DUE_TOGETHER)?, None);
-    Ok(())
+fn leases_due_together_come_by_deadline_and_then_number(rt: HostRuntime) -> Result<(), Wrong> {
+    each_line_of_a_table_holds(rt.alloc(), DUE_TOGETHER)
 }
 
 const TOLD_BEFOREHAND: &str = "\
@@ -110,9 +104,8 @@ is_live 2 => false
 ";
 
 #[test]
-fn due_leases_are_told_beforehand_and_end_at_an_expiry(rt: HostRuntime) -> Result<(), Fail> {
-    assert_eq!(rt; first_wrong_of_table(rt.alloc(), TOLD_BEFOREHAND)?, None);
-    Ok(())
+fn due_leases_are_told_beforehand_and_end_at_an_expiry(rt: HostRuntime) -> Result<(), Wrong> {
+    each_line_of_a_table_holds(rt.alloc(), TOLD_BEFOREHAND)
 }
 
 const RENEWED: &str = "\
@@ -126,9 +119,8 @@ has_due => true
 ";
 
 #[test]
-fn a_renewal_counts_from_now_and_not_from_the_old_deadline(rt: HostRuntime) -> Result<(), Fail> {
-    assert_eq!(rt; first_wrong_of_table(rt.alloc(), RENEWED)?, None);
-    Ok(())
+fn a_renewal_counts_from_now_and_not_from_the_old_deadline(rt: HostRuntime) -> Result<(), Wrong> {
+    each_line_of_a_table_holds(rt.alloc(), RENEWED)
 }
 
 const LAST_VALUE: &str = "\
@@ -141,9 +133,8 @@ due => [1]
 ";
 
 #[test]
-fn the_clock_and_deadlines_stay_at_the_last_value(rt: HostRuntime) -> Result<(), Fail> {
-    assert_eq!(rt; first_wrong_of_table(rt.alloc(), LAST_VALUE)?, None);
-    Ok(())
+fn the_clock_and_deadlines_stay_at_the_last_value(rt: HostRuntime) -> Result<(), Wrong> {
+    each_line_of_a_table_holds(rt.alloc(), LAST_VALUE)
 }
 
 const REVOKED: &str = "\
@@ -159,9 +150,8 @@ grant 5 => 2
 #[test]
 fn a_revoked_lease_is_live_no_more_and_its_number_is_not_granted_again(
     rt: HostRuntime,
-) -> Result<(), Fail> {
-    assert_eq!(rt; first_wrong_of_table(rt.alloc(), REVOKED)?, None);
-    Ok(())
+) -> Result<(), Wrong> {
+    each_line_of_a_table_holds(rt.alloc(), REVOKED)
 }
 
 const LAPSED: &str = "\
@@ -199,7 +189,6 @@ has_due_after 10 => true
 ";
 
 #[test]
-fn lapses_drop_the_ended_leases_and_keep_the_others(rt: HostRuntime) -> Result<(), Fail> {
-    assert_eq!(rt; first_wrong_of_table(rt.alloc(), LAPSED)?, None);
-    Ok(())
+fn lapses_drop_the_ended_leases_and_keep_the_others(rt: HostRuntime) -> Result<(), Wrong> {
+    each_line_of_a_table_holds(rt.alloc(), LAPSED)
 }

@@ -3,8 +3,7 @@ use flaky_link::{FlakyLink, LinkState, When};
 use memory_store::MemoryStore;
 use mesh_base::Memory;
 use std::alloc::Global;
-use std::test::Fail;
-use test_cases::{Answers, first_wrong};
+use test_cases::{Answers, Wrong, each_line_holds};
 
 // Besides the calls of a store through the link, `before SKIP` and `after SKIP` plan a failure, and
 // `down`, `up` and `clear` change the link; `new` is for a new link to a new store.
@@ -46,8 +45,8 @@ fn skipped(word: &str) -> u32 {
     word.parse().unwrap_or(0)
 }
 
-fn first_wrong_of_link(alloc: Global, lines: &str) -> Result<Option<String>, Memory> {
-    first_wrong(&mut Linked::new(alloc), alloc, lines)
+fn each_line_of_a_link_holds(alloc: Global, lines: &str) -> Result<(), Wrong> {
+    each_line_holds(&mut Linked::new(alloc), alloc, lines)
 }
 
 const PLANNED: &str = "\
@@ -102,9 +101,8 @@ list => at 1
 ";
 
 #[test]
-fn exactly_the_planned_calls_fail(rt: HostRuntime) -> Result<(), Fail> {
-    assert_eq!(rt; first_wrong_of_link(rt.alloc(), PLANNED)?, None);
-    Ok(())
+fn exactly_the_planned_calls_fail(rt: HostRuntime) -> Result<(), Wrong> {
+    each_line_of_a_link_holds(rt.alloc(), PLANNED)
 }
 
 const DOWN: &str = "\
@@ -119,9 +117,8 @@ grant 900 => 1
 ";
 
 #[test]
-fn a_link_that_is_down_keeps_its_plan(rt: HostRuntime) -> Result<(), Fail> {
-    assert_eq!(rt; first_wrong_of_link(rt.alloc(), DOWN)?, None);
-    Ok(())
+fn a_link_that_is_down_keeps_its_plan(rt: HostRuntime) -> Result<(), Wrong> {
+    each_line_of_a_link_holds(rt.alloc(), DOWN)
 }
 
 const REFUSED: &str = "\
@@ -132,9 +129,8 @@ commit a=1@5 => NoLease { lease: 5 }
 ";
 
 #[test]
-fn a_call_that_the_store_refused_is_lost_as_planned(rt: HostRuntime) -> Result<(), Fail> {
-    assert_eq!(rt; first_wrong_of_link(rt.alloc(), REFUSED)?, None);
-    Ok(())
+fn a_call_that_the_store_refused_is_lost_as_planned(rt: HostRuntime) -> Result<(), Wrong> {
+    each_line_of_a_link_holds(rt.alloc(), REFUSED)
 }
 
 const PASSING: &str = "\
@@ -145,7 +141,6 @@ pull 2 9 => 1
 ";
 
 #[test]
-fn a_link_that_lets_a_call_pass_answers_as_its_store(rt: HostRuntime) -> Result<(), Fail> {
-    assert_eq!(rt; first_wrong_of_link(rt.alloc(), PASSING)?, None);
-    Ok(())
+fn a_link_that_lets_a_call_pass_answers_as_its_store(rt: HostRuntime) -> Result<(), Wrong> {
+    each_line_of_a_link_holds(rt.alloc(), PASSING)
 }

@@ -3,9 +3,8 @@ use memory_store::MemoryStore;
 use mesh_base::{Items, Memory};
 use reflector::{Reflector, Turn, delivery};
 use std::alloc::Global;
-use std::test::Fail;
 use store_api::{Batch, Change, Delivery, Ranges, Revision, Store};
-use test_cases::{Answers, first_wrong};
+use test_cases::{Answers, Wrong, each_line_holds};
 
 // Besides the calls of `script`, `puts KEY..` puts each key by a commit of its own, `turn MOST` makes
 // a turn of the reader, `lose` has it lose its connection, and `cursor` and `is_waiting` tell of it;
@@ -99,8 +98,8 @@ impl Answers for Watched {
     }
 }
 
-fn first_wrong_of_reader(alloc: Global, lines: &str) -> Result<Option<String>, Memory> {
-    first_wrong(&mut Watched::new(alloc)?, alloc, lines)
+fn each_line_of_a_reader_holds(alloc: Global, lines: &str) -> Result<(), Wrong> {
+    each_line_holds(&mut Watched::new(alloc)?, alloc, lines)
 }
 
 const WATCHED: &str = "\
@@ -141,9 +140,8 @@ turn 18446744073709551615 => nothing
 ";
 
 #[test]
-fn a_reader_lists_and_then_watches_from_its_cursor(rt: HostRuntime) -> Result<(), Fail> {
-    assert_eq!(rt; first_wrong_of_reader(rt.alloc(), WATCHED)?, None);
-    Ok(())
+fn a_reader_lists_and_then_watches_from_its_cursor(rt: HostRuntime) -> Result<(), Wrong> {
+    each_line_of_a_reader_holds(rt.alloc(), WATCHED)
 }
 
 const DELETION_COMPACTED: &str = "\
@@ -156,12 +154,8 @@ turn 9 => list 3 0
 ";
 
 #[test]
-fn a_deletion_at_the_compacted_revision_is_not_missed(rt: HostRuntime) -> Result<(), Fail> {
-    assert_eq!(rt;
-        first_wrong_of_reader(rt.alloc(), DELETION_COMPACTED)?,
-        None
-    );
-    Ok(())
+fn a_deletion_at_the_compacted_revision_is_not_missed(rt: HostRuntime) -> Result<(), Wrong> {
+    each_line_of_a_reader_holds(rt.alloc(), DELETION_COMPACTED)
 }
 
 const CONNECTION_LOST: &str = "\
@@ -174,7 +168,6 @@ cursor => 1
 ";
 
 #[test]
-fn a_reader_that_lost_its_connection_keeps_its_cursor(rt: HostRuntime) -> Result<(), Fail> {
-    assert_eq!(rt; first_wrong_of_reader(rt.alloc(), CONNECTION_LOST)?, None);
-    Ok(())
+fn a_reader_that_lost_its_connection_keeps_its_cursor(rt: HostRuntime) -> Result<(), Wrong> {
+    each_line_of_a_reader_holds(rt.alloc(), CONNECTION_LOST)
 }

@@ -6,9 +6,8 @@ use crate::script::{administer, cut, number, told, told_nothing, transaction};
 use memory_store::MemoryStore;
 use mesh_base::{Bytes, Items, Memory};
 use std::alloc::Global;
-use std::test::Fail;
 use store_api::{Change, Revision};
-use test_cases::{Answers, first_wrong};
+use test_cases::{Answers, Wrong, each_line_holds};
 
 // Besides the calls of `script`, `commit_as WRITER OPERATION..` and `tick_as WRITER SECONDS` are made
 // by a writer, `new` is for an empty store, and `journal UPTO` for that of `JOURNAL`, compacted up to
@@ -100,11 +99,11 @@ impl Answers for Stored {
     }
 }
 
-fn first_wrong_of_store(alloc: Global, lines: &str) -> Result<Option<String>, Memory> {
+fn each_line_of_a_store_holds(alloc: Global, lines: &str) -> Result<(), Wrong> {
     let mut stored = Stored {
         store: MemoryStore::new(alloc),
     };
-    first_wrong(&mut stored, alloc, lines)
+    each_line_holds(&mut stored, alloc, lines)
 }
 
 const DELETED: &str = "\
@@ -115,9 +114,8 @@ commit -a => 3
 ";
 
 #[test]
-fn deleting_an_absent_key_adds_no_revision(rt: HostRuntime) -> Result<(), Fail> {
-    assert_eq!(rt; first_wrong_of_store(rt.alloc(), DELETED)?, None);
-    Ok(())
+fn deleting_an_absent_key_adds_no_revision(rt: HostRuntime) -> Result<(), Wrong> {
+    each_line_of_a_store_holds(rt.alloc(), DELETED)
 }
 
 const PUT_AGAIN: &str = "\
@@ -126,9 +124,8 @@ commit a=1 => 3
 ";
 
 #[test]
-fn a_put_of_an_equal_value_raises_the_revision(rt: HostRuntime) -> Result<(), Fail> {
-    assert_eq!(rt; first_wrong_of_store(rt.alloc(), PUT_AGAIN)?, None);
-    Ok(())
+fn a_put_of_an_equal_value_raises_the_revision(rt: HostRuntime) -> Result<(), Wrong> {
+    each_line_of_a_store_holds(rt.alloc(), PUT_AGAIN)
 }
 
 const IN_ONE_TRANSACTION: &str = "\
@@ -138,9 +135,8 @@ list => at 3 b
 ";
 
 #[test]
-fn the_changes_of_a_transaction_are_one_revision(rt: HostRuntime) -> Result<(), Fail> {
-    assert_eq!(rt; first_wrong_of_store(rt.alloc(), IN_ONE_TRANSACTION)?, None);
-    Ok(())
+fn the_changes_of_a_transaction_are_one_revision(rt: HostRuntime) -> Result<(), Wrong> {
+    each_line_of_a_store_holds(rt.alloc(), IN_ONE_TRANSACTION)
 }
 
 const CLUSTERS: &str = "\
@@ -152,9 +148,8 @@ list cilium/state/nodes/v1/east/n2 cilium/state/nodes/v1/east/ => at 5 cilium/st
 ";
 
 #[test]
-fn a_prefix_leaves_out_the_cluster_whose_name_it_begins(rt: HostRuntime) -> Result<(), Fail> {
-    assert_eq!(rt; first_wrong_of_store(rt.alloc(), CLUSTERS)?, None);
-    Ok(())
+fn a_prefix_leaves_out_the_cluster_whose_name_it_begins(rt: HostRuntime) -> Result<(), Wrong> {
+    each_line_of_a_store_holds(rt.alloc(), CLUSTERS)
 }
 
 const NOT_LIVE: &str = "\
@@ -163,9 +158,8 @@ list => at 1
 ";
 
 #[test]
-fn a_put_under_a_lease_that_is_not_live_changes_nothing(rt: HostRuntime) -> Result<(), Fail> {
-    assert_eq!(rt; first_wrong_of_store(rt.alloc(), NOT_LIVE)?, None);
-    Ok(())
+fn a_put_under_a_lease_that_is_not_live_changes_nothing(rt: HostRuntime) -> Result<(), Wrong> {
+    each_line_of_a_store_holds(rt.alloc(), NOT_LIVE)
 }
 
 const ATTACHED: &str = "\
@@ -186,9 +180,8 @@ tick 1000000 => 8
 #[test]
 fn an_attachment_is_moved_and_ended_by_a_put_and_lapses_with_its_lease(
     rt: HostRuntime,
-) -> Result<(), Fail> {
-    assert_eq!(rt; first_wrong_of_store(rt.alloc(), ATTACHED)?, None);
-    Ok(())
+) -> Result<(), Wrong> {
+    each_line_of_a_store_holds(rt.alloc(), ATTACHED)
 }
 
 const LAPSED_AT_ONCE: &str = "\
@@ -207,9 +200,8 @@ commit a=1 => 9
 ";
 
 #[test]
-fn a_lease_deletes_its_keys_in_one_revision(rt: HostRuntime) -> Result<(), Fail> {
-    assert_eq!(rt; first_wrong_of_store(rt.alloc(), LAPSED_AT_ONCE)?, None);
-    Ok(())
+fn a_lease_deletes_its_keys_in_one_revision(rt: HostRuntime) -> Result<(), Wrong> {
+    each_line_of_a_store_holds(rt.alloc(), LAPSED_AT_ONCE)
 }
 
 const DUE_TOGETHER: &str = "\
@@ -226,9 +218,8 @@ pull 6 9 => 6-w-z 7-y 8-x 8
 ";
 
 #[test]
-fn leases_due_together_lapse_by_deadline_and_then_number(rt: HostRuntime) -> Result<(), Fail> {
-    assert_eq!(rt; first_wrong_of_store(rt.alloc(), DUE_TOGETHER)?, None);
-    Ok(())
+fn leases_due_together_lapse_by_deadline_and_then_number(rt: HostRuntime) -> Result<(), Wrong> {
+    each_line_of_a_store_holds(rt.alloc(), DUE_TOGETHER)
 }
 
 const LAPSED: &str = "\
@@ -245,9 +236,8 @@ tick 1 => 3
 #[test]
 fn a_lapsed_lease_is_refused_and_its_number_is_not_granted_again(
     rt: HostRuntime,
-) -> Result<(), Fail> {
-    assert_eq!(rt; first_wrong_of_store(rt.alloc(), LAPSED)?, None);
-    Ok(())
+) -> Result<(), Wrong> {
+    each_line_of_a_store_holds(rt.alloc(), LAPSED)
 }
 
 const NAMED_FIRST: &str = "\
@@ -257,9 +247,8 @@ list => at 1
 ";
 
 #[test]
-fn the_first_dead_lease_that_is_named_is_answered(rt: HostRuntime) -> Result<(), Fail> {
-    assert_eq!(rt; first_wrong_of_store(rt.alloc(), NAMED_FIRST)?, None);
-    Ok(())
+fn the_first_dead_lease_that_is_named_is_answered(rt: HostRuntime) -> Result<(), Wrong> {
+    each_line_of_a_store_holds(rt.alloc(), NAMED_FIRST)
 }
 
 const LIVE: &str = "\
@@ -275,9 +264,8 @@ tick 1 => 3
 ";
 
 #[test]
-fn a_lease_is_live_until_its_deadline(rt: HostRuntime) -> Result<(), Fail> {
-    assert_eq!(rt; first_wrong_of_store(rt.alloc(), LIVE)?, None);
-    Ok(())
+fn a_lease_is_live_until_its_deadline(rt: HostRuntime) -> Result<(), Wrong> {
+    each_line_of_a_store_holds(rt.alloc(), LIVE)
 }
 
 const KEPT_ALIVE: &str = "\
@@ -290,9 +278,8 @@ tick 1 => 3
 ";
 
 #[test]
-fn a_lease_kept_alive_has_its_whole_time_from_then_on(rt: HostRuntime) -> Result<(), Fail> {
-    assert_eq!(rt; first_wrong_of_store(rt.alloc(), KEPT_ALIVE)?, None);
-    Ok(())
+fn a_lease_kept_alive_has_its_whole_time_from_then_on(rt: HostRuntime) -> Result<(), Wrong> {
+    each_line_of_a_store_holds(rt.alloc(), KEPT_ALIVE)
 }
 
 const LAST_VALUE: &str = "\
@@ -303,9 +290,8 @@ tick 0 => 3
 ";
 
 #[test]
-fn the_clock_and_deadlines_stay_at_the_last_value(rt: HostRuntime) -> Result<(), Fail> {
-    assert_eq!(rt; first_wrong_of_store(rt.alloc(), LAST_VALUE)?, None);
-    Ok(())
+fn the_clock_and_deadlines_stay_at_the_last_value(rt: HostRuntime) -> Result<(), Wrong> {
+    each_line_of_a_store_holds(rt.alloc(), LAST_VALUE)
 }
 
 const PULLED: &str = "\
@@ -325,9 +311,8 @@ pull 2 0 => 1
 ";
 
 #[test]
-fn a_pull_has_the_changes_of_its_ranges_in_whole_revisions(rt: HostRuntime) -> Result<(), Fail> {
-    assert_eq!(rt; first_wrong_of_store(rt.alloc(), PULLED)?, None);
-    Ok(())
+fn a_pull_has_the_changes_of_its_ranges_in_whole_revisions(rt: HostRuntime) -> Result<(), Wrong> {
+    each_line_of_a_store_holds(rt.alloc(), PULLED)
 }
 
 const COMPACTED: &str = "\
@@ -343,9 +328,8 @@ list => at 3
 ";
 
 #[test]
-fn a_pull_from_the_compacted_revision_is_refused(rt: HostRuntime) -> Result<(), Fail> {
-    assert_eq!(rt; first_wrong_of_store(rt.alloc(), COMPACTED)?, None);
-    Ok(())
+fn a_pull_from_the_compacted_revision_is_refused(rt: HostRuntime) -> Result<(), Wrong> {
+    each_line_of_a_store_holds(rt.alloc(), COMPACTED)
 }
 
 const JOURNAL_LISTED: &str = "\
@@ -354,9 +338,8 @@ list => at 3 cilium/cluster-config/east cilium/state/nodes/v1/east/n7
 ";
 
 #[test]
-fn a_store_lists_what_its_journal_left(rt: HostRuntime) -> Result<(), Fail> {
-    assert_eq!(rt; first_wrong_of_store(rt.alloc(), JOURNAL_LISTED)?, None);
-    Ok(())
+fn a_store_lists_what_its_journal_left(rt: HostRuntime) -> Result<(), Wrong> {
+    each_line_of_a_store_holds(rt.alloc(), JOURNAL_LISTED)
 }
 
 const JOURNAL_PULLED: &str = "\
@@ -365,9 +348,8 @@ pull 1 9 => 2+cilium/cluster-config/east 3+cilium/state/nodes/v1/east/n7 3
 ";
 
 #[test]
-fn a_journal_is_pulled_as_the_history(rt: HostRuntime) -> Result<(), Fail> {
-    assert_eq!(rt; first_wrong_of_store(rt.alloc(), JOURNAL_PULLED)?, None);
-    Ok(())
+fn a_journal_is_pulled_as_the_history(rt: HostRuntime) -> Result<(), Wrong> {
+    each_line_of_a_store_holds(rt.alloc(), JOURNAL_PULLED)
 }
 
 const AFTER_A_JOURNAL: &str = "\
@@ -377,9 +359,8 @@ pull 3 9 a => 4+a 4
 ";
 
 #[test]
-fn a_commit_after_a_journal_has_the_next_number(rt: HostRuntime) -> Result<(), Fail> {
-    assert_eq!(rt; first_wrong_of_store(rt.alloc(), AFTER_A_JOURNAL)?, None);
-    Ok(())
+fn a_commit_after_a_journal_has_the_next_number(rt: HostRuntime) -> Result<(), Wrong> {
+    each_line_of_a_store_holds(rt.alloc(), AFTER_A_JOURNAL)
 }
 
 const JOURNAL_COMPACTED: &str = "\
@@ -389,9 +370,8 @@ pull 3 9 => 3+cilium/state/nodes/v1/east/n7 3
 ";
 
 #[test]
-fn a_compacted_journal_is_refused_to_a_pull(rt: HostRuntime) -> Result<(), Fail> {
-    assert_eq!(rt; first_wrong_of_store(rt.alloc(), JOURNAL_COMPACTED)?, None);
-    Ok(())
+fn a_compacted_journal_is_refused_to_a_pull(rt: HostRuntime) -> Result<(), Wrong> {
+    each_line_of_a_store_holds(rt.alloc(), JOURNAL_COMPACTED)
 }
 
 const JOURNAL_WITHOUT_LEASES: &str = "\
@@ -402,10 +382,6 @@ commit a=1@1 => 4
 ";
 
 #[test]
-fn a_store_of_a_journal_has_no_lease(rt: HostRuntime) -> Result<(), Fail> {
-    assert_eq!(rt;
-        first_wrong_of_store(rt.alloc(), JOURNAL_WITHOUT_LEASES)?,
-        None
-    );
-    Ok(())
+fn a_store_of_a_journal_has_no_lease(rt: HostRuntime) -> Result<(), Wrong> {
+    each_line_of_a_store_holds(rt.alloc(), JOURNAL_WITHOUT_LEASES)
 }

@@ -3,10 +3,14 @@ ghost use Rattle.std.specs.Prelude.{◌≡◌, false};
 ghost use Rattle.turn_cell.specs.Knowledge.{IsPassOf};
 
 use std::alloc::Global;
+use std::snapshot::Snapshot;
 use std::sync::Wait;
 use std::test::Fail;
 use std::thread::{Threads, join};
-use turn_cell::{Pass, Tally, TurnCell, add_in_turn};
+use tally::{Tally, add_in_turn};
+use turn_cell::{Pass, TurnCell};
+
+mod tally;
 
 /// As many turns, with the entries 0, 1 and so on.
 fn turns<R: Wait>(rt: &R, cell: &TurnCell<Tally>, mut pass: Pass<Tally>, count: u64) -> Pass<Tally>
@@ -58,7 +62,7 @@ fn first_entries_stay_in_front(rt: HostRuntime) -> Result<(), Fail> {
     assert_eq!(rt; pass.number(), 1);
     add_in_turn(&rt, &cell, &mut pass, 10);
     let tally = cell.close(pass);
-    assert_eq!(rt; tally.log.as_slice(), [(7, 70), (1, 10)].as_slice());
+    assert_eq!(rt; tally.numbers.as_slice(), [(7, 70), (1, 10)].as_slice());
     Ok(())
 }
 
@@ -75,10 +79,10 @@ fn cell_and_pass_may_be_let_go(rt: HostRuntime) -> Result<(), Fail> {
 #[test]
 fn each_of_two_threads_has_its_turns_in_order(rt: HostRuntime) -> Result<(), Fail> {
     let tally = two_threads(&rt, rt.alloc(), 500).ok_or("memory")?;
-    assert_eq!(rt; tally.log.len(), 1000);
+    assert_eq!(rt; tally.numbers.len(), 1000);
     for owner in 2..4u32 {
         let mut next = 0u64;
-        for entry in &tally.log {
+        for entry in &tally.numbers {
             if entry.0 == owner {
                 assert_eq!(rt; entry.1, next);
                 next = next.wrapping_add(1);
@@ -86,5 +90,18 @@ fn each_of_two_threads_has_its_turns_in_order(rt: HostRuntime) -> Result<(), Fai
         }
         assert_eq!(rt; next, 500);
     }
+    Ok(())
+}
+
+#[test]
+fn an_entry_is_noted_in_a_turn(rt: HostRuntime) -> Result<(), Fail> {
+    let alloc = rt.alloc();
+    let tally = Tally::new(alloc);
+    let (cell, mut pass) = TurnCell::new(alloc, tally).map_err(|_| "memory")?;
+    let mut tally = cell.enter(&rt, &mut pass);
+    tally.log.note(pass.number(), Snapshot::of(&10));
+    cell.leave(&mut pass, tally);
+    let tally = cell.close(pass);
+    assert_eq!(rt; tally.numbers.len(), 0);
     Ok(())
 }

@@ -12,8 +12,7 @@ use shared_tables::{
     AddressRow, BackendRow, IdentityRow, NodeRow, RejectRow, Report, SourceRow, Why,
 };
 use std::alloc::{AllocError, AllocFailed, Global};
-use std::test::Fail;
-use test_cases::{Answers, first_wrong};
+use test_cases::{Answers, Wrong, each_line_holds};
 
 /// Why a row is none.
 #[derive(Debug, Drop)]
@@ -262,7 +261,7 @@ impl Answers for Texts {
 }
 
 #[test]
-fn each_row_has_its_line(rt: HostRuntime) -> Result<(), Fail> {
+fn each_row_has_its_line(rt: HostRuntime) -> Result<(), Wrong> {
     let lines = "report 1|\
         source east State 10|\
         node n1 InternalIP=172.18.0.2 CiliumInternalIP=10.0.0.41|\
@@ -276,12 +275,11 @@ fn each_row_has_its_line(rt: HostRuntime) -> Result<(), Fail> {
         address 10.0.0.5 east 68714 172.18.0.2 prod web-0|\
         backend prod web east 10.0.0.5,8080,TCP,http|\
         end|";
-    assert_eq!(rt; first_wrong(&mut Texts, rt.alloc(), lines)?, None);
-    Ok(())
+    each_line_holds(&mut Texts, rt.alloc(), lines)
 }
 
 #[test]
-fn a_source_that_is_not_caught_up_is_held(rt: HostRuntime) -> Result<(), Fail> {
+fn a_source_that_is_not_caught_up_is_held(rt: HostRuntime) -> Result<(), Wrong> {
     let lines = "probe 2|\
         source west Cache 206|\
         source east State held 3|\
@@ -291,12 +289,11 @@ fn a_source_that_is_not_caught_up_is_held(rt: HostRuntime) -> Result<(), Fail> {
         source north cached held 0|\
         source west cached 206|\
         end|";
-    assert_eq!(rt; first_wrong(&mut Texts, rt.alloc(), lines)?, None);
-    Ok(())
+    each_line_holds(&mut Texts, rt.alloc(), lines)
 }
 
 #[test]
-fn rows_stand_in_byte_order_of_their_lines(rt: HostRuntime) -> Result<(), Fail> {
+fn rows_stand_in_byte_order_of_their_lines(rt: HostRuntime) -> Result<(), Wrong> {
     let lines = "report 1|\
         node n2|\
         node n10|\
@@ -312,12 +309,11 @@ fn rows_stand_in_byte_order_of_their_lines(rt: HostRuntime) -> Result<(), Fail> 
         chosen prod api home 10.9.0.2,80,TCP,http|\
         chosen prod web home 10.9.0.1,80,TCP,http|\
         end|";
-    assert_eq!(rt; first_wrong(&mut Texts, rt.alloc(), lines)?, None);
-    Ok(())
+    each_line_holds(&mut Texts, rt.alloc(), lines)
 }
 
 #[test]
-fn what_is_none_or_no_plain_word_can_be_told(rt: HostRuntime) -> Result<(), Fail> {
+fn what_is_none_or_no_plain_word_can_be_told(rt: HostRuntime) -> Result<(), Wrong> {
     let lines = "report 1|\
         node n8 Internal%20IP=2001:db8:0:0:0:0:0:1|\
         identity 1 -|\
@@ -333,8 +329,7 @@ fn what_is_none_or_no_plain_word_can_be_told(rt: HostRuntime) -> Result<(), Fail
         backend prod web east 10.0.0.5,80,TCP,-|\
         reject east cilium/state/nodes/v1/east/n%202 key_name|\
         end|";
-    assert_eq!(rt; first_wrong(&mut Texts, rt.alloc(), lines)?, None);
-    Ok(())
+    each_line_holds(&mut Texts, rt.alloc(), lines)
 }
 
 const REJECTS: &str = "\
@@ -343,7 +338,6 @@ report 1|reject Mask cilium/state/nodes/v1/east/n2 => report 1|reject east ciliu
 report 1|reject IdTaken cilium/state/nodes/v1/east/n2 => report 1|reject east cilium/state/nodes/v1/east/n2 id_taken|end|";
 
 #[test]
-fn a_reject_says_why(rt: HostRuntime) -> Result<(), Fail> {
-    assert_eq!(rt; first_wrong(&mut Texts, rt.alloc(), REJECTS)?, None);
-    Ok(())
+fn a_reject_says_why(rt: HostRuntime) -> Result<(), Wrong> {
+    each_line_holds(&mut Texts, rt.alloc(), REJECTS)
 }

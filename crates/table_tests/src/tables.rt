@@ -14,8 +14,7 @@ use shared_tables::{RecordChange, Report, Row, Steps, Tables};
 use std::alloc::Global;
 use std::marker::Brand;
 use std::sync::ledger::{Blank, Ledger};
-use std::test::Fail;
-use test_cases::{Answers, first_wrong};
+use test_cases::{Answers, Wrong, each_line_holds};
 
 /// Tables of the sources `west` and `east`, and the keys of their rows, each with the place of its
 /// source.
@@ -240,7 +239,7 @@ impl Answers for Reports {
 }
 
 #[test]
-fn each_kind_of_record_has_its_rows(rt: HostRuntime) -> Result<(), Fail> {
+fn each_kind_of_record_has_its_rows(rt: HostRuntime) -> Result<(), Wrong> {
     let beginning = "config east {'id':1}|\
         row east cilium/state/nodes/v1/east/n1 {'Name':'n1','Cluster':'east','ClusterID':1,'IPv4AllocCIDR':'10.1.0.0/24','IPAddresses':[{'Type':'InternalIP','IP':'10.0.0.1'}]}|\
         row east cilium/state/identities/v1/id/68714 k8s:app=web;k8s:io.kubernetes.pod.namespace=shop;|\
@@ -253,15 +252,11 @@ fn each_kind_of_record_has_its_rows(rt: HostRuntime) -> Result<(), Fail> {
         address 10.1.0.7 east 68714 10.0.0.1 shop web-0|\
         backend shop web east 10.1.0.7,8080,TCP,http|\
         end|";
-    assert_eq!(rt;
-        first_wrong(&mut Reports { beginning }, rt.alloc(), lines)?,
-        None
-    );
-    Ok(())
+    each_line_holds(&mut Reports { beginning }, rt.alloc(), lines)
 }
 
 #[test]
-fn a_faulty_pair_of_an_admitted_source_is_rejected(rt: HostRuntime) -> Result<(), Fail> {
+fn a_faulty_pair_of_an_admitted_source_is_rejected(rt: HostRuntime) -> Result<(), Wrong> {
     let beginning = "config east {'id':1}|\
         row east cilium/state/nodes/v1/east/n1 {'Name':'n1','Cluster':'east','ClusterID':1}|\
         row east cilium/state/nodes/v1/east/n2 {'Name':'n3','Cluster':'east','ClusterID':1}|\
@@ -271,11 +266,7 @@ fn a_faulty_pair_of_an_admitted_source_is_rejected(rt: HostRuntime) -> Result<()
         reject east cilium/state/identities/v1/id/68714 label|\
         reject east cilium/state/nodes/v1/east/n2 name|\
         end|";
-    assert_eq!(rt;
-        first_wrong(&mut Reports { beginning }, rt.alloc(), lines)?,
-        None
-    );
-    Ok(())
+    each_line_holds(&mut Reports { beginning }, rt.alloc(), lines)
 }
 
 // The last line's local cluster has the number of both sources, which comes before that they have
@@ -283,7 +274,7 @@ fn a_faulty_pair_of_an_admitted_source_is_rejected(rt: HostRuntime) -> Result<()
 #[test]
 fn of_two_clusters_with_one_number_the_first_by_name_is_admitted(
     rt: HostRuntime,
-) -> Result<(), Fail> {
+) -> Result<(), Wrong> {
     let beginning = "config west {'id':1}|\
         row west cilium/state/nodes/v1/west/w1 {'Name':'w1','Cluster':'west','ClusterID':1}|\
         row east cilium/state/nodes/v1/east/n1 {'Name':'n1','Cluster':'east','ClusterID':1}";
@@ -293,39 +284,27 @@ home 9 => report 1|node west w1|end|
 home 9|config east {'id':0} => report 1|node west w1|reject east cilium/cluster-config/east cluster_id|end|
 home 9|config east {'id':1,'capabilities':{'maxConnectedClusters':511}} => report 1|node west w1|reject east cilium/cluster-config/east limit|end|
 home 1|config east {'id':1} => report 1|reject east cilium/cluster-config/east id_local|reject west cilium/cluster-config/west id_local|end|";
-    assert_eq!(rt;
-        first_wrong(&mut Reports { beginning }, rt.alloc(), lines)?,
-        None
-    );
-    Ok(())
+    each_line_holds(&mut Reports { beginning }, rt.alloc(), lines)
 }
 
 #[test]
-fn an_address_is_shown_for_the_cluster_with_the_least_number(rt: HostRuntime) -> Result<(), Fail> {
+fn an_address_is_shown_for_the_cluster_with_the_least_number(rt: HostRuntime) -> Result<(), Wrong> {
     let beginning = "config west {'id':2}|\
         row west cilium/state/ip/v1/default/10.0.0.5 {'IP':'10.0.0.5','ID':131328}";
     let lines = "\
 home 9|config east {'id':1}|row east cilium/state/ip/v1/default/10.0.0.5 {'IP':'10.0.0.5','ID':65792} => report 1|address 10.0.0.5 east 65792 - - -|end|
 home 9|config east {'id':5}|row east cilium/state/ip/v1/default/10.0.0.5 {'IP':'10.0.0.5','ID':327936} => report 1|address 10.0.0.5 west 131328 - - -|end|
 home 9|row east cilium/state/ip/v1/default/10.0.0.5 {'IP':'10.0.0.5','ID':65792} => report 1|address 10.0.0.5 west 131328 - - -|end|";
-    assert_eq!(rt;
-        first_wrong(&mut Reports { beginning }, rt.alloc(), lines)?,
-        None
-    );
-    Ok(())
+    each_line_holds(&mut Reports { beginning }, rt.alloc(), lines)
 }
 
 #[test]
-fn a_source_that_is_forgotten_has_no_rows(rt: HostRuntime) -> Result<(), Fail> {
+fn a_source_that_is_forgotten_has_no_rows(rt: HostRuntime) -> Result<(), Wrong> {
     let beginning = "config west {'id':2}|\
         row west cilium/state/ip/v1/default/10.0.0.5 {'IP':'10.0.0.5','ID':131328}|\
         config east {'id':1}|\
         row east cilium/state/ip/v1/default/10.0.0.5 {'IP':'10.0.0.5','ID':65792}|\
         row east cilium/state/nodes/v1/east/n1 {'Name':'n1','Cluster':'east','ClusterID':1}";
     let lines = "home 9|forget east => report 1|address 10.0.0.5 west 131328 - - -|end|";
-    assert_eq!(rt;
-        first_wrong(&mut Reports { beginning }, rt.alloc(), lines)?,
-        None
-    );
-    Ok(())
+    each_line_holds(&mut Reports { beginning }, rt.alloc(), lines)
 }

@@ -9,7 +9,7 @@ use relist_merge::{Phase, ReadRecord, Reading, View, read_delivery};
 use std::alloc::Global;
 use std::test::Fail;
 use store_api::{Batch, Change, Delivery, Listing, Pair, Revision};
-use test_cases::{Answers, first_wrong};
+use test_cases::{Answers, Wrong, each_line_holds};
 
 /// The config, the marks of the four kinds and two nodes, each with its bit in a set of names.
 const NAMES: [(u8, u8); 7] = [
@@ -271,32 +271,30 @@ fn view_of_east(alloc: Global, hop: Hop) -> Result<Viewing, Fail> {
     })
 }
 
-fn first_wrong_of(alloc: Global, hop: Hop, lines: &str) -> Result<Option<String>, Fail> {
+fn each_line_of_a_view_holds(alloc: Global, hop: Hop, lines: &str) -> Result<(), Fail> {
     let mut viewing = view_of_east(alloc, hop)?;
-    Ok(first_wrong(&mut viewing, alloc, lines)?)
+    each_line_holds(&mut viewing, alloc, lines)?;
+    Ok(())
 }
 
 #[test]
 fn a_new_view_waits_without_entries(rt: HostRuntime) -> Result<(), Fail> {
     let lines = "standing => waiting at 0:\n\
         config => none";
-    assert_eq!(rt; first_wrong_of(rt.alloc(), Hop::State, lines)?, None);
-    Ok(())
+    each_line_of_a_view_holds(rt.alloc(), Hop::State, lines)
 }
 
 #[test]
 fn a_listing_with_all_marks_catches_up(rt: HostRuntime) -> Result<(), Fail> {
     let lines = "list 7 c1234a => caught up at 7: c 1 2 3 4 a\n\
         caught up => true";
-    assert_eq!(rt; first_wrong_of(rt.alloc(), Hop::State, lines)?, None);
-    Ok(())
+    each_line_of_a_view_holds(rt.alloc(), Hop::State, lines)
 }
 
 #[test]
 fn a_listing_without_all_marks_is_held(rt: HostRuntime) -> Result<(), Fail> {
     let lines = "list 3 c1a => held at 3: c 1 a";
-    assert_eq!(rt; first_wrong_of(rt.alloc(), Hop::State, lines)?, None);
-    Ok(())
+    each_line_of_a_view_holds(rt.alloc(), Hop::State, lines)
 }
 
 #[test]
@@ -305,8 +303,7 @@ fn a_list_cut_short_by_a_lost_connection_drops_nothing(rt: HostRuntime) -> Resul
         begin => waiting at 7: c' 1' 2' 3' 4' a'\n\
         lose => waiting at 7: c' 1' 2' 3' 4' a'\n\
         finish => false";
-    assert_eq!(rt; first_wrong_of(rt.alloc(), Hop::State, lines)?, None);
-    Ok(())
+    each_line_of_a_view_holds(rt.alloc(), Hop::State, lines)
 }
 
 #[test]
@@ -314,8 +311,7 @@ fn a_restarted_exporter_is_held_with_what_was_sighted(rt: HostRuntime) -> Result
     let lines = "list 7 c1234a => caught up at 7: c 1 2 3 4 a\n\
         lost => waiting at 7: c 1 2 3 4 a\n\
         list 9 c => held at 9: c 1' 2' 3' 4' a'";
-    assert_eq!(rt; first_wrong_of(rt.alloc(), Hop::State, lines)?, None);
-    Ok(())
+    each_line_of_a_view_holds(rt.alloc(), Hop::State, lines)
 }
 
 #[test]
@@ -327,8 +323,7 @@ fn what_is_unlisted_goes_once_the_restarted_exporter_is_synced(
         list 9 c => held at 9: c 1' 2' 3' 4' a'\n\
         batch 12 10+1 11+2 12+3 => held at 12: c 1 2 3 4' a'\n\
         batch 13 13+4 => caught up at 13: c 1 2 3 4";
-    assert_eq!(rt; first_wrong_of(rt.alloc(), Hop::State, lines)?, None);
-    Ok(())
+    each_line_of_a_view_holds(rt.alloc(), Hop::State, lines)
 }
 
 #[test]
@@ -337,8 +332,7 @@ fn a_deletion_in_sight_counts_at_once(rt: HostRuntime) -> Result<(), Fail> {
         lost => waiting at 7: c 1 2 3 4 a\n\
         list 9 c => held at 9: c 1' 2' 3' 4' a'\n\
         batch 11 10+b 11-a => held at 11: c 1' 2' 3' 4' b";
-    assert_eq!(rt; first_wrong_of(rt.alloc(), Hop::State, lines)?, None);
-    Ok(())
+    each_line_of_a_view_holds(rt.alloc(), Hop::State, lines)
 }
 
 // A pull from behind the cursor that is compacted is refused, and the reader lists anew.
@@ -347,24 +341,21 @@ fn a_compaction_in_front_of_the_cursor_costs_a_new_list(rt: HostRuntime) -> Resu
     let lines = "list 7 c1234a => caught up at 7: c 1 2 3 4 a\n\
         lost => waiting at 7: c 1 2 3 4 a\n\
         list 10 c1234ab => caught up at 10: c 1 2 3 4 a b";
-    assert_eq!(rt; first_wrong_of(rt.alloc(), Hop::State, lines)?, None);
-    Ok(())
+    each_line_of_a_view_holds(rt.alloc(), Hop::State, lines)
 }
 
 #[test]
 fn a_compaction_behind_the_cursor_changes_nothing(rt: HostRuntime) -> Result<(), Fail> {
     let lines = "list 7 c1234a => caught up at 7: c 1 2 3 4 a\n\
         batch 8 8+b => caught up at 8: c 1 2 3 4 a b";
-    assert_eq!(rt; first_wrong_of(rt.alloc(), Hop::State, lines)?, None);
-    Ok(())
+    each_line_of_a_view_holds(rt.alloc(), Hop::State, lines)
 }
 
 #[test]
 fn what_has_room_is_taken_whole(rt: HostRuntime) -> Result<(), Fail> {
     let lines = "take 7 c1234a => caught up at 7: c 1 2 3 4 a\n\
         move 8 => caught up at 8: c 1 2 3 4 a";
-    assert_eq!(rt; first_wrong_of(rt.alloc(), Hop::State, lines)?, None);
-    Ok(())
+    each_line_of_a_view_holds(rt.alloc(), Hop::State, lines)
 }
 
 #[test]
@@ -374,8 +365,7 @@ fn a_view_tells_its_pairs_its_records_and_its_config(rt: HostRuntime) -> Result<
         records => cilium/state/nodes/v1/east/a valid;\n\
         config => valid\n\
         read config => valid";
-    assert_eq!(rt; first_wrong_of(rt.alloc(), Hop::State, lines)?, None);
-    Ok(())
+    each_line_of_a_view_holds(rt.alloc(), Hop::State, lines)
 }
 
 #[test]
@@ -383,8 +373,7 @@ fn a_view_of_a_cache_tells_its_cut(rt: HostRuntime) -> Result<(), Fail> {
     let lines = "cut => None\n\
         list 3 cq => held at 3: c\n\
         cut => Some(7)";
-    assert_eq!(rt; first_wrong_of(rt.alloc(), Hop::Cache, lines)?, None);
-    Ok(())
+    each_line_of_a_view_holds(rt.alloc(), Hop::Cache, lines)
 }
 
 /// What is live of the names, and what was sighted of them by the definition: what the last span
@@ -522,40 +511,32 @@ fn next(alloc: Global, plain: &mut Plain, number: u32) -> Result<String, Memory>
     list_line(alloc, plain)
 }
 
-/// The step behind which the view stands otherwise than the plain program.
-fn wrong(
-    alloc: Global,
-    view: &mut View,
-    plain: &mut Plain,
-    number: u32,
-) -> Result<Option<String>, Memory> {
+/// Takes one step, behind which the view must stand as the plain program.
+fn step_holds(alloc: Global, view: &mut View, plain: &mut Plain, number: u32) -> Result<(), Wrong> {
     let line = next(alloc, plain, number)?;
     hand(view, alloc, line.as_str())?;
     if standing_of(view, alloc)? == plain_standing(plain) {
-        return Ok(None);
+        return Ok(());
     }
-    Ok(Some(line))
+    Err(Wrong::Line(line))
 }
 
-/// The first step, of those chosen by a sequence of numbers, behind which they stand otherwise.
-fn first_wrong_step(alloc: Global, seed: u32) -> Result<Option<String>, Fail> {
+/// The same, of the steps that a sequence of numbers chooses.
+fn each_step_holds(alloc: Global, seed: u32) -> Result<(), Fail> {
     let mut viewing = view_of_east(alloc, Hop::State)?;
     let mut plain = NOTHING;
     let mut number = seed;
     for _ in 0..200u32 {
         number = number.wrapping_mul(1_664_525).wrapping_add(1_013_904_223);
-        let found = wrong(alloc, &mut viewing.view, &mut plain, (number >> 16) % 11)?;
-        if found.is_some() {
-            return Ok(found);
-        }
+        step_holds(alloc, &mut viewing.view, &mut plain, (number >> 16) % 11)?;
     }
-    Ok(None)
+    Ok(())
 }
 
 #[test]
 fn a_view_stays_beside_a_plain_program(rt: HostRuntime) -> Result<(), Fail> {
     for seed in 0..30u32 {
-        assert_eq!(rt; first_wrong_step(rt.alloc(), seed)?, None);
+        each_step_holds(rt.alloc(), seed)?;
     }
     Ok(())
 }

@@ -13,34 +13,46 @@ pub trait Answers {
     fn answer(&mut self, alloc: Global, asked: &str) -> Result<String, Memory>;
 }
 
-// The line with what was answered, where that is not what must be.
-fn wrong<A: Answers>(
-    answering: &mut A,
-    alloc: Global,
-    line: &str,
-) -> Result<Option<String>, Memory> {
+/// Why a script does not hold.
+#[derive(Debug, Drop)]
+pub enum Wrong {
+    /// This line is answered otherwise than it says; what was answered stands behind it.
+    Line(String),
+    /// Memory was refused.
+    Memory,
+}
+
+impl From<Memory> for Wrong {
+    fn from(_: Memory) -> Wrong {
+        Wrong::Memory
+    }
+}
+
+// The line, with what was answered behind it.
+fn answered_line(alloc: Global, line: &str, answered: &str) -> Result<String, Memory> {
+    Ok(format!(in alloc; "{line}: {answered}")?)
+}
+
+// Fails with the line and what was answered, where that is not what must be.
+fn line_holds<A: Answers>(answering: &mut A, alloc: Global, line: &str) -> Result<(), Wrong> {
     let Some((asked, wanted)) = line.split_once(" => ") else {
-        return Ok(Some(format!(in alloc; "{line}: no ` => `")?));
+        return Err(Wrong::Line(answered_line(alloc, line, "no ` => `")?));
     };
     let answered = answering.answer(alloc, asked)?;
     if answered.as_str() == wanted {
-        return Ok(None);
+        return Ok(());
     }
-    Ok(Some(format!(in alloc; "{line}: {answered}")?))
+    Err(Wrong::Line(answered_line(alloc, line, answered.as_str())?))
 }
 
-/// The first line that is answered otherwise than it says, with the answer; `None` where each is
-/// answered so.
-pub fn first_wrong<A: Answers>(
+/// Runs the lines in their order, and fails with the first that is answered otherwise than it says.
+pub fn each_line_holds<A: Answers>(
     answering: &mut A,
     alloc: Global,
     lines: &str,
-) -> Result<Option<String>, Memory> {
+) -> Result<(), Wrong> {
     for line in lines.lines() {
-        let found = wrong(answering, alloc, line)?;
-        if found.is_some() {
-            return Ok(found);
-        }
+        line_holds(answering, alloc, line)?;
     }
-    Ok(None)
+    Ok(())
 }

@@ -8,7 +8,7 @@ use std::alloc::Global;
 use std::str;
 use std::test::Fail;
 use store_api::Range;
-use test_cases::{Answers, first_wrong};
+use test_cases::{Answers, Wrong, each_line_holds};
 
 /// What a key says in words, where it is written and copied as it was read, or why it is none.
 #[derive(Drop)]
@@ -139,9 +139,8 @@ cilium/state/services/v1/east/default/web => service State east default web
 ";
 
 #[test]
-fn each_key_is_read_written_and_copied(rt: HostRuntime) -> Result<(), Fail> {
-    assert_eq!(rt; first_wrong(&mut KeysInWords, rt.alloc(), KEYS)?, None);
-    Ok(())
+fn each_key_is_read_written_and_copied(rt: HostRuntime) -> Result<(), Wrong> {
+    each_line_holds(&mut KeysInWords, rt.alloc(), KEYS)
 }
 
 const FAULTY_KEYS: &str = "\
@@ -190,12 +189,8 @@ cilium/cache/ip/v1/east/2001:db8:0::1 => Address { at: 24 }
 ";
 
 #[test]
-fn the_first_fault_of_a_key_is_answered(rt: HostRuntime) -> Result<(), Fail> {
-    assert_eq!(rt;
-        first_wrong(&mut KeysInWords, rt.alloc(), FAULTY_KEYS)?,
-        None
-    );
-    Ok(())
+fn the_first_fault_of_a_key_is_answered(rt: HostRuntime) -> Result<(), Wrong> {
+    each_line_holds(&mut KeysInWords, rt.alloc(), FAULTY_KEYS)
 }
 
 // Each key as its beginning, the byte behind it, and how often that comes.
@@ -242,9 +237,8 @@ impl Answers for LongKeys {
 }
 
 #[test]
-fn keys_of_many_bytes_are_judged_too(rt: HostRuntime) -> Result<(), Fail> {
-    assert_eq!(rt; first_wrong(&mut LongKeys, rt.alloc(), LONG_KEYS)?, None);
-    Ok(())
+fn keys_of_many_bytes_are_judged_too(rt: HostRuntime) -> Result<(), Wrong> {
+    each_line_holds(&mut LongKeys, rt.alloc(), LONG_KEYS)
 }
 
 const RANGES: &str = "\
@@ -305,7 +299,7 @@ fn a_reader_follows_the_ranges_of_its_cluster(rt: HostRuntime) -> Result<(), Fai
     let mut east = RangesOf {
         cluster: ClusterName::read(rt.alloc(), b"east")?,
     };
-    assert_eq!(rt; first_wrong(&mut east, rt.alloc(), RANGES)?, None);
+    each_line_holds(&mut east, rt.alloc(), RANGES)?;
     Ok(())
 }
 
@@ -384,7 +378,7 @@ fn record_keys_are_moved_between_the_hops(rt: HostRuntime) -> Result<(), Fail> {
     let mut east = Moves {
         cluster: ClusterName::read(rt.alloc(), b"east")?,
     };
-    assert_eq!(rt; first_wrong(&mut east, rt.alloc(), MOVED_KEYS)?, None);
+    each_line_holds(&mut east, rt.alloc(), MOVED_KEYS)?;
     Ok(())
 }
 
@@ -393,7 +387,7 @@ fn other_keys_are_not_moved(rt: HostRuntime) -> Result<(), Fail> {
     let mut east = Moves {
         cluster: ClusterName::read(rt.alloc(), b"east")?,
     };
-    assert_eq!(rt; first_wrong(&mut east, rt.alloc(), OTHER_KEYS)?, None);
+    each_line_holds(&mut east, rt.alloc(), OTHER_KEYS)?;
     Ok(())
 }
 
@@ -436,9 +430,6 @@ fn the_keys_of_records_are_told_by_their_beginning(rt: HostRuntime) -> Result<()
     let mut east = RecordKeys {
         cluster: ClusterName::read(rt.alloc(), b"east")?,
     };
-    assert_eq!(rt;
-        first_wrong(&mut east, rt.alloc(), KEYS_BY_BEGINNING)?,
-        None
-    );
+    each_line_holds(&mut east, rt.alloc(), KEYS_BY_BEGINNING)?;
     Ok(())
 }

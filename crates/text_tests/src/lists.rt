@@ -1,7 +1,6 @@
 use mesh_base::{Bytes, Items, Memory};
 use std::alloc::Global;
-use std::test::Fail;
-use test_cases::{Answers, first_wrong};
+use test_cases::{Answers, Wrong, each_line_holds};
 
 fn text_of(alloc: Global, bytes: &Bytes) -> Result<String, Memory> {
     Ok(String::from_utf8_lossy(alloc, bytes.as_slice())?)
@@ -44,10 +43,9 @@ impl Answers for Growing {
 }
 
 #[test]
-fn bytes_grow_and_compare_in_byte_order(rt: HostRuntime) -> Result<(), Fail> {
+fn bytes_grow_and_compare_in_byte_order(rt: HostRuntime) -> Result<(), Wrong> {
     let lines = "east 2 /n1 => east before east2/n1, 8 bytes";
-    assert_eq!(rt; first_wrong(&mut Growing, rt.alloc(), lines)?, None);
-    Ok(())
+    each_line_holds(&mut Growing, rt.alloc(), lines)
 }
 
 /// Items that are copied, as `east west`, before one more is put behind them, as `+ north`.
@@ -89,10 +87,9 @@ impl Answers for Copying {
 }
 
 #[test]
-fn items_are_copied_with_what_they_hold(rt: HostRuntime) -> Result<(), Fail> {
+fn items_are_copied_with_what_they_hold(rt: HostRuntime) -> Result<(), Wrong> {
     let lines = "east west + north => 2: east west";
-    assert_eq!(rt; first_wrong(&mut Copying, rt.alloc(), lines)?, None);
-    Ok(())
+    each_line_holds(&mut Copying, rt.alloc(), lines)
 }
 
 /// Numbers that are put one behind the other.
@@ -111,8 +108,7 @@ impl Answers for Numbers {
 }
 
 #[test]
-fn items_keep_their_order(rt: HostRuntime) -> Result<(), Fail> {
+fn items_keep_their_order(rt: HostRuntime) -> Result<(), Wrong> {
     let lines = "3 1 => 2: [3, 1]";
-    assert_eq!(rt; first_wrong(&mut Numbers, rt.alloc(), lines)?, None);
-    Ok(())
+    each_line_holds(&mut Numbers, rt.alloc(), lines)
 }

@@ -5,7 +5,7 @@ use mesh_text::{
 };
 use std::alloc::Global;
 use std::test::Fail;
-use test_cases::{Answers, first_wrong};
+use test_cases::{Answers, Wrong, each_line_holds};
 
 // From RFC 4291, section 2.2, and RFC 5952, sections 2 and 4; and last a run at the end, a single zero
 // field, and an IPv4-mapped address.
@@ -82,18 +82,13 @@ impl Answers for Canonical {
 }
 
 #[test]
-fn an_ipv6_text_is_printed_in_its_canonical_form(rt: HostRuntime) -> Result<(), Fail> {
-    assert_eq!(rt; first_wrong(&mut Canonical, rt.alloc(), ADDRESSES)?, None);
-    Ok(())
+fn an_ipv6_text_is_printed_in_its_canonical_form(rt: HostRuntime) -> Result<(), Wrong> {
+    each_line_holds(&mut Canonical, rt.alloc(), ADDRESSES)
 }
 
 #[test]
-fn a_text_outside_the_grammar_is_no_address(rt: HostRuntime) -> Result<(), Fail> {
-    assert_eq!(rt;
-        first_wrong(&mut Canonical, rt.alloc(), NO_ADDRESSES)?,
-        None
-    );
-    Ok(())
+fn a_text_outside_the_grammar_is_no_address(rt: HostRuntime) -> Result<(), Wrong> {
+    each_line_holds(&mut Canonical, rt.alloc(), NO_ADDRESSES)
 }
 
 const ADDRESS_NUMBERS: &str = "\
@@ -150,12 +145,8 @@ impl Answers for AddressNumbers {
 }
 
 #[test]
-fn an_address_is_its_bytes_as_one_number(rt: HostRuntime) -> Result<(), Fail> {
-    assert_eq!(rt;
-        first_wrong(&mut AddressNumbers, rt.alloc(), ADDRESS_NUMBERS)?,
-        None
-    );
-    Ok(())
+fn an_address_is_its_bytes_as_one_number(rt: HostRuntime) -> Result<(), Wrong> {
+    each_line_holds(&mut AddressNumbers, rt.alloc(), ADDRESS_NUMBERS)
 }
 
 const NUMBERS: &str = "\
@@ -186,9 +177,8 @@ impl Answers for Numbers {
 }
 
 #[test]
-fn a_number_is_canonical_decimal_of_64_bits(rt: HostRuntime) -> Result<(), Fail> {
-    assert_eq!(rt; first_wrong(&mut Numbers, rt.alloc(), NUMBERS)?, None);
-    Ok(())
+fn a_number_is_canonical_decimal_of_64_bits(rt: HostRuntime) -> Result<(), Wrong> {
+    each_line_holds(&mut Numbers, rt.alloc(), NUMBERS)
 }
 
 const CLUSTER_NAMES: &str = "\
@@ -243,12 +233,8 @@ impl Answers for ClusterNames {
 }
 
 #[test]
-fn the_first_fault_of_a_cluster_name_is_answered(rt: HostRuntime) -> Result<(), Fail> {
-    assert_eq!(rt;
-        first_wrong(&mut ClusterNames, rt.alloc(), CLUSTER_NAMES)?,
-        None
-    );
-    Ok(())
+fn the_first_fault_of_a_cluster_name_is_answered(rt: HostRuntime) -> Result<(), Wrong> {
+    each_line_holds(&mut ClusterNames, rt.alloc(), CLUSTER_NAMES)
 }
 
 /// The bytes of a part name, or why there is none; `253 a` asks of a name of so many bytes.
@@ -277,9 +263,8 @@ impl Answers for PartNames {
 }
 
 #[test]
-fn a_part_name_may_have_dots_and_begin_with_a_dash(rt: HostRuntime) -> Result<(), Fail> {
-    assert_eq!(rt; first_wrong(&mut PartNames, rt.alloc(), PART_NAMES)?, None);
-    Ok(())
+fn a_part_name_may_have_dots_and_begin_with_a_dash(rt: HostRuntime) -> Result<(), Wrong> {
+    each_line_holds(&mut PartNames, rt.alloc(), PART_NAMES)
 }
 
 const WORDS: &str = "\
@@ -325,9 +310,8 @@ impl Answers for Words {
 }
 
 #[test]
-fn escaped_bytes_are_one_word(rt: HostRuntime) -> Result<(), Fail> {
-    assert_eq!(rt; first_wrong(&mut Words, rt.alloc(), WORDS)?, None);
-    Ok(())
+fn escaped_bytes_are_one_word(rt: HostRuntime) -> Result<(), Wrong> {
+    each_line_holds(&mut Words, rt.alloc(), WORDS)
 }
 
 const TEXTS: &str = "\
@@ -402,13 +386,12 @@ impl Answers for Orders {
 
 #[test]
 fn ipv4_addresses_come_before_ipv6_addresses(rt: HostRuntime) -> Result<(), Fail> {
-    assert_eq!(rt; first_wrong(&mut Orders, rt.alloc(), ORDERS)?, None);
+    each_line_holds(&mut Orders, rt.alloc(), ORDERS)?;
     assert!(rt; Kind::Nodes < Kind::Services && Kind::Identities < Kind::Addresses);
     Ok(())
 }
 
 #[test]
-fn texts_compare_in_byte_order(rt: HostRuntime) -> Result<(), Fail> {
-    assert_eq!(rt; first_wrong(&mut Texts, rt.alloc(), TEXTS)?, None);
-    Ok(())
+fn texts_compare_in_byte_order(rt: HostRuntime) -> Result<(), Wrong> {
+    each_line_holds(&mut Texts, rt.alloc(), TEXTS)
 }

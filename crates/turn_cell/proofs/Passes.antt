@@ -1,5 +1,6 @@
 -- What contracts see of a pass, after each call.
-use Rattle.std.proofs.Common.{◌≡◌, ℕ, ◌+◌, ◌==◌, false, List, [], ◌∷◌, ◌++◌, length, sym, refl, ap, ◌∙◌, subst, arith, Option, Some, ne_eqb}
+use Rattle.std.proofs.Common.{◌≡◌, ℕ, ◌+◌, ◌==◌, false, List, [], ◌∷◌, ◌++◌, length, sym, refl, ap, ◌∙◌, subst, arith, Option, Some, ne_eqb, append_assoc, length-append}
+use Rattle.std.proofs.lemmas.List.{append-nil}
 use Rattle.std.specs.Prelude.{IsSome}
 use mathlib.Core.Option.{some}
 use lib.ListN.{get_elem?}
@@ -8,12 +9,12 @@ use Rattle.atomic_table.specs.declared.shared.Seat.{Seat}
 use Rattle.turn_cell.specs.declared.view.View.{View}
 use Rattle.turn_cell.specs.declared.view.Stage.{Stage}
 use Rattle.turn_cell.specs.declared.view.Stage.TheVariants.{Outside, Waiting, Inside}
-use Rattle.turn_cell.specs.Logs.{Log, Account, Begins, Each, after, AreExact, grown, account_count}
-use Rattle.turn_cell.specs.Knowledge.{Knowledge, accounts_of, after_turn, after_join, found_lengths, HasAll}
+use Rattle.turn_cell.specs.Logs.{Log, Account, Begins, Each, after, longer, AreExact, grown, account_count}
+use Rattle.turn_cell.specs.Knowledge.{Knowledge, accounts_of, after_enter, after_turn, after_join, found_lengths, added_in, AreInTurn, IsTraced, HasAll}
 use Rattle.turn_cell.specs.Rule.{TurnRule}
 use Rattle.turn_cell.specs.Steps.{view_after_turn, view_numbered, view_split_off, view_joined, view_heard, ViewAccounted}
 use Rattle.turn_cell.specs.Seats.{is_inside, own_of, gathered_of, IsSettled, IsNumbered, HoldsAt, knowledge, IsPass}
-use Rattle.turn_cell.proofs.Lists.{each_right}
+use Rattle.turn_cell.proofs.Lists.{each_right, begins_self, begins_on}
 use Rattle.turn_cell.proofs.Sharing.{closes}
 
 own_grown : {E : Type 0} (es : Log E) (a : Account E) (others accounts : List (Account E)) → accounts ≡ a ∷ others → own_of (grown es accounts) ≡ own_of accounts ++ es
@@ -38,6 +39,52 @@ stage_idle (Inside t) slots out h = absurd (cc)
 pub found_append : {E : Type 0} (a : List (Log E × Log E)) (turn : Log E × Log E) → found_lengths (a ++ turn ∷ []) ≡ found_lengths a ++ length turn.0 ∷ []
 found_append [] turn = refl
 found_append (t ∷ ts) turn = ap (λ l. length t.0 ∷ l) (found_append ts turn)
+
+module _ {E : Type 0} where
+  added_append : (turns : List (Log E × Log E)) (turn : Log E × Log E) → added_in (turns ++ turn ∷ []) ≡ added_in turns ++ after turn.0 turn.1
+  added_append [] turn = append-nil (after turn.0 turn.1)
+  added_append (t ∷ ts) turn = ap (λ (l : Log E). after t.0 t.1 ++ l) (added_append ts turn) ∙ sym (append_assoc (after t.0 t.1) (added_in ts) (after turn.0 turn.1))
+
+  -- the turns stay in turn where the log seen has grown
+  in_turn_on : (turns : List (Log E × Log E)) (seen now : Log E) → AreInTurn turns seen → Begins seen now → AreInTurn turns now
+  in_turn_on [] seen now are b = tt
+  in_turn_on (t ∷ []) seen now are b = (are.0, begins_on t.1 seen now are.1 b, tt)
+  in_turn_on (t ∷ u ∷ us) seen now are b = (are.0, are.1, in_turn_on (u ∷ us) seen now are.2 b)
+
+  -- one turn more
+  in_turn_more : (turns : List (Log E × Log E)) (seen left : Log E) → AreInTurn turns seen → Begins seen left → AreInTurn (turns ++ (seen, left) ∷ []) left
+  in_turn_more [] seen left are b = (b, begins_self left, tt)
+  in_turn_more (t ∷ []) seen left are b = (are.0, are.1, in_turn_more [] seen left tt b)
+  in_turn_more (t ∷ u ∷ us) seen left are b = (are.0, are.1, in_turn_more (u ∷ us) seen left are.2 b)
+
+module _ {E F : Type 0} where
+  -- where the pass has seen more, and has made no turn, it is still traced
+  sees_more : (k l : Knowledge E F) → IsTraced k → l.own ≡ k.own → l.trace ≡ k.trace → l.turns ≡ k.turns → Begins k.seen l.seen → IsTraced l
+  sees_more k l is own trace turns b = record {
+    own = own ∙ (is.own ∙ ap added_in (sym trace));
+    in_turn = subst (λ (ts : List (Log E × Log E)). AreInTurn ts l.seen) (sym trace) (in_turn_on k.trace k.seen l.seen is.in_turn b);
+    counted = turns ∙ (is.counted ∙ ap length (sym trace));
+  }
+
+  pub enter_traced : (k l m : Knowledge E F) (found : Log E) → IsTraced k → k ≡ l → m ≡ after_enter l found → Begins k.seen found → IsTraced m
+  enter_traced k l m found is known step b =
+      sees_more k m is (ap (λ z. z.own) step ∙ sym (ap (λ z. z.own) known)) (ap (λ z. z.trace) step ∙ sym (ap (λ z. z.trace) known)) (ap (λ z. z.turns) step ∙ sym (ap (λ z. z.turns) known))
+      (subst (λ (s : Log E). Begins k.seen s) (sym (ap (λ z. z.seen) step)) b)
+
+  pub join_traced : (k l other m : Knowledge E F) → IsTraced k → k ≡ l → m ≡ after_join l other → Begins k.seen m.seen → IsTraced m
+  join_traced k l other m is known step b =
+      sees_more k m is (ap (λ z. z.own) step ∙ sym (ap (λ z. z.own) known)) (ap (λ z. z.trace) step ∙ sym (ap (λ z. z.trace) known)) (ap (λ z. z.turns) step ∙ sym (ap (λ z. z.turns) known)) b
+
+  -- after a turn it is traced with this turn behind the others
+  turns_on : (k : Knowledge E F) (left : Log E) → IsTraced k → Begins k.seen left → IsTraced (after_turn k left)
+  turns_on k left is b = record {
+    own = ap (λ (l : Log E). l ++ after k.seen left) is.own ∙ sym (added_append k.trace (k.seen, left));
+    in_turn = in_turn_more k.trace k.seen left is.in_turn b;
+    counted = let c : k.turns ≡ length k.trace = is.counted in omega (arith, length-append k.trace ((k.seen, left) ∷ []));
+  }
+
+  pub turn_traced : (k l m : Knowledge E F) (left : Log E) → IsTraced k → k ≡ l → m ≡ after_turn l left → Begins l.seen left → IsTraced m
+  turn_traced k l m left is known step b = subst (λ (z : Knowledge E F). IsTraced z) (sym step) (turns_on l left (subst (λ (z : Knowledge E F). IsTraced z) known is) b)
 
 -- a pass's accounts are its own and those that it gathered
 pub accounts_are : {E F : Type 0} (n : ℕ) (v : View E F) → IsNumbered n v → v.accounts ≡ (n, own_of v.accounts) ∷ gathered_of v.accounts
@@ -99,6 +146,11 @@ module _ {T E F : Type 0} where
         fixed = subst (λ (z : Me (Option T) (View E F)). IsSome z.0.fixed) (sym me_is) pass.fixed;
         accounted = subst (λ (z : Me (Option T) (View E F)). Begins z.0.opening z.0.seen × AreExact (after z.0.opening z.0.seen) ((m, own_of z.0.accounts) ∷ gathered_of z.0.accounts)) (sym me_is)
             (facts.0, subst (λ (z : ℕ). AreExact (after v.opening v.seen) ((z, []) ∷ [])) (sym number_is) none);
+        traced = record {
+          own = subst (λ (z : Me (Option T) (View E F)). own_of z.0.accounts ≡ added_in z.0.trace) (sym me_is) refl;
+          in_turn = subst (λ (z : Me (Option T) (View E F)). AreInTurn z.0.trace z.0.seen) (sym me_is) tt;
+          counted = subst (λ (z : Me (Option T) (View E F)). z.0.turns ≡ length z.0.trace) (sym me_is) refl;
+        };
       }
 
 module _ {T E F : Type 0} (log : T → Log E) (fixed : T → F) (x0 : T) where

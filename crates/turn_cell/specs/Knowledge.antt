@@ -35,6 +35,22 @@ abbrev pub found_lengths : {E : Type 0} → List (Log E × Log E) → List ℕ
 found_lengths [] = []
 found_lengths (turn ∷ turns) = length turn.0 ∷ found_lengths turns
 
+module _ {E : Type 0} where
+  -- what the turns added to the logs that they found, in their order
+  abbrev pub added_in : List (Log E × Log E) → Log E
+  added_in [] = []
+  added_in (turn ∷ turns) = after turn.0 turn.1 ++ added_in turns
+
+  -- the log that the first of these turns found; with no turn, the log seen now
+  abbrev pub found_next : List (Log E × Log E) → Log E → Log E
+  found_next [] now = now
+  found_next (turn ∷ turns) now = turn.0
+
+  -- each turn left a log that begins with the one found, and the next turn found a log that begins with the one left; the log seen now begins with the last one left
+  abbrev pub AreInTurn : List (Log E × Log E) → Log E → Type 0
+  AreInTurn [] now = Unit {0}
+  AreInTurn (turn ∷ turns) now = Begins turn.0 turn.1 × Begins turn.1 (found_next turns now) × AreInTurn turns now
+
 module _ {E F : Type 0} where
   -- the pass is one of this cell
   abbrev pub IsPassOf : Cell E F → Knowledge E F → Type 0
@@ -47,6 +63,12 @@ module _ {E F : Type 0} where
   -- The log seen begins with the cell's opening, and behind it the entries of each account's number are exactly those of the account
   abbrev pub IsAccounted : Knowledge E F → Type 0
   IsAccounted p = Begins p.cell.opening p.seen × AreExact (after p.cell.opening p.seen) (accounts_of p)
+
+  -- The pass's own entries are exactly those that its turns added, in their order, the turns follow one another, and all of them are counted
+  pub record IsTraced (p : Knowledge E F) : Type 0 where
+    pub own : p.own ≡ added_in p.trace
+    pub in_turn : AreInTurn p.trace p.seen
+    pub counted : p.turns ≡ length p.trace
 
   -- the pass that a new cell comes with
   abbrev pub first_pass : Cell E F → Knowledge E F

@@ -1,4 +1,5 @@
 pub mod Logs
+pub mod Noted
 pub mod Knowledge
 pub mod Rule
 pub mod Steps

@@ -7,7 +7,7 @@ use Rattle.turn_cell.specs.declared.view.Stage.{Stage}
 use Rattle.turn_cell.specs.declared.view.Stage.TheVariants.{Outside, Waiting, Inside}
 use Rattle.turn_cell.specs.Logs.{Log, Account, Begins, AddsOwn}
 use Rattle.turn_cell.specs.Steps.{at_stage, view_inside, view_after_turn, ViewAccounted, IsFixedAs}
-use Rattle.turn_cell.specs.Knowledge.{Cell, Knowledge, IsAccounted}
+use Rattle.turn_cell.specs.Knowledge.{Cell, Knowledge, IsAccounted, IsTraced}
 
 -- whether a view has the value out
 abbrev pub is_inside : Stage → Bool
@@ -74,6 +74,7 @@ module _ {T E F : Type 0} where
     pub leads : p.me.0.first ≡ (n == 1)
     pub fixed : IsSome p.me.0.fixed
     pub accounted : IsAccounted (knowledge n p)
+    pub traced : IsTraced (knowledge n p)
 
 module _ {T E F : Type 0} (log : T → Log E) (fixed : T → F) where
   -- the seat came in, and found this value

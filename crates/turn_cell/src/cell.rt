@@ -1,6 +1,6 @@
 ghost use Rattle.std.specs.Prelude.{◌≡◌, ◌≢◌, ◌<◌, ◌++◌, true, false, [], ◌∷◌, length, IfOk, IfErr, Some};
 ghost use Rattle.turn_cell.specs.Logs.{Begins, AddsOwn};
-ghost use Rattle.turn_cell.specs.Knowledge.{IsPassOf, IsAccounted, first_pass, after_split, split_off, after_join, after_enter, after_turn, found_lengths, HasAll};
+ghost use Rattle.turn_cell.specs.Knowledge.{IsPassOf, IsAccounted, IsTraced, first_pass, after_split, split_off, after_join, after_enter, after_turn, found_lengths, HasAll};
 
 use crate::kept::Kept;
 use crate::seat_steps;
@@ -60,6 +60,7 @@ impl<T: Kept> Pass<T> {
     pub fn number(&self) -> u32
         ensures number { result ≡ self.now.number }
         ensures accounted { IsAccounted self.now }
+        ensures traced { IsTraced self.now }
     {
         self.number
     }
@@ -107,6 +108,7 @@ impl<T: Kept> TurnCell<T> {
         ensures cell { IfOk result (λ made. (made.0.opening ≡ T.log value) × (made.0.fixed ≡ Some (T.fixed value))) }
         ensures pass { IfOk result (λ made. made.1 ≡ first_pass made.0) }
         ensures accounted { IfOk result (λ made. IsAccounted made.1) }
+        ensures traced { IfOk result (λ made. IsTraced made.1) }
         ensures err { IfErr result (λ back. back ≡ value) }
     {
         let key = Snapshot::of(&value);
@@ -134,6 +136,7 @@ impl<T: Kept> TurnCell<T> {
         ensures stays { pass.new ≡ after_split pass.old }
         ensures split_off { result ≡ split_off pass.old }
         ensures accounted { IsAccounted pass.new × IsAccounted result }
+        ensures traced { IsTraced pass.new × IsTraced result }
     {
         let (number, seat) = seat_steps::split(&self.table.shared, &mut pass.seat);
         Pass { number, seat }
@@ -147,6 +150,7 @@ impl<T: Kept> TurnCell<T> {
         ensures joined { pass.new ≡ after_join pass.old other }
         ensures begins { Begins pass.old.seen pass.new.seen × Begins other.seen pass.new.seen }
         ensures accounted { IsAccounted pass.new }
+        ensures traced { IsTraced pass.new }
     {
         let Pass { number: _, seat } = other;
         seat_steps::join(&self.table.shared, &mut pass.seat, seat);
@@ -160,6 +164,7 @@ impl<T: Kept> TurnCell<T> {
         ensures begins { Begins pass.old.seen (T.log result) }
         ensures fixed { self.now.fixed ≡ Some (T.fixed result) }
         ensures accounted { IsAccounted pass.new }
+        ensures traced { IsTraced pass.new }
     {
         seat_steps::enter(rt, &self.table.shared, &mut pass.seat)
     }
@@ -173,6 +178,7 @@ impl<T: Kept> TurnCell<T> {
         ensures left { pass.new ≡ after_turn pass.old (T.log value) }
         ensures trace { found_lengths pass.new.trace ≡ found_lengths pass.old.trace ++ length pass.old.seen ∷ [] }
         ensures accounted { IsAccounted pass.new }
+        ensures traced { IsTraced pass.new }
     {
         seat_steps::leave(&self.table.shared, &mut pass.seat, value);
     }
@@ -186,6 +192,7 @@ impl<T: Kept> TurnCell<T> {
         ensures log { T.log result ≡ pass.seen }
         ensures fixed { self.fixed ≡ Some (T.fixed result) }
         ensures accounted { IsAccounted pass }
+        ensures traced { IsTraced pass }
         ensures all { HasAll pass (T.log result) }
     {
         let TurnCell { table } = self;

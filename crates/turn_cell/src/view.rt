@@ -5,7 +5,7 @@ use std::marker::PhantomData;
 use std::snapshot::Snapshot;
 
 /// Where a pass is, and its ticket.
-pub enum Stage {
+pub(crate) enum Stage {
     Outside,
     Waiting(u64),
     Inside(u64),
@@ -13,7 +13,7 @@ pub enum Stage {
 
 /// What the seat of a pass knows. It is data for contracts alone: no value of it is made, so its
 /// numbers have no upper bound.
-pub struct View<E, F> {
+pub(crate) struct View<E, F> {
     pub stage: Stage,
     /// The log that it has seen.
     pub seen: LinkedList<(u32, E)>,
@@ -37,7 +37,7 @@ pub struct View<E, F> {
 }
 
 /// The rule of the table of a cell.
-pub struct Turns<T> {
+pub(crate) struct Turns<T> {
     kept: PhantomData<T>,
 }
 

@@ -1,12 +1,11 @@
-use super::{HEAD, run_cases, text, told_fault};
+use super::{HEAD, text, told_fault};
 use mesh_base::Memory;
 use mesh_text::{Ip, PartName};
 use scenario_lang::{
     Action, Cluster, Mode, Pod, RawWrite, Remote, Scenario, Withdrawn, read_scenario,
 };
 use std::alloc::Global;
-use std::test::Fail;
-use test_cases::Answers;
+use test_cases::{Answers, Wrong, each_line_holds};
 
 fn shown(bytes: &[u8]) -> &str {
     str::from_utf8(bytes).unwrap_or("no text")
@@ -59,8 +58,8 @@ mesh 1|  local  home 9 |# a comment||lease 30|remote east 1 direct|remote west-2
 ";
 
 #[test]
-fn the_header_is_read(rt: HostRuntime) -> Result<(), Fail> {
-    run_cases(&mut Header, rt.alloc(), HEADERS)
+fn the_header_is_read(rt: HostRuntime) -> Result<(), Wrong> {
+    each_line_holds(&mut Header, rt.alloc(), HEADERS)
 }
 
 const ACTIONS_AGAIN: &str = "\
@@ -68,8 +67,8 @@ mesh 1|local home 9|remote east 1 direct|turn agent east all|turn agent east all
 ";
 
 #[test]
-fn turns_and_restarts_come_again(rt: HostRuntime) -> Result<(), Fail> {
-    run_cases(&mut Header, rt.alloc(), ACTIONS_AGAIN)
+fn turns_and_restarts_come_again(rt: HostRuntime) -> Result<(), Wrong> {
+    each_line_holds(&mut Header, rt.alloc(), ACTIONS_AGAIN)
 }
 
 fn told_node(
@@ -188,8 +187,8 @@ withdraw west address 0.0.0.7| => Withdraw { remote: 1, record: Address(V4(7)) }
 ";
 
 #[test]
-fn each_action_is_read(rt: HostRuntime) -> Result<(), Fail> {
-    run_cases(&mut Actions, rt.alloc(), OF_RECORDS)
+fn each_action_is_read(rt: HostRuntime) -> Result<(), Wrong> {
+    each_line_holds(&mut Actions, rt.alloc(), OF_RECORDS)
 }
 
 const OF_EXPORTERS_AND_STORES: &str = "\
@@ -203,8 +202,8 @@ report| => Report
 ";
 
 #[test]
-fn each_action_of_an_exporter_or_a_store_is_read(rt: HostRuntime) -> Result<(), Fail> {
-    run_cases(&mut Actions, rt.alloc(), OF_EXPORTERS_AND_STORES)
+fn each_action_of_an_exporter_or_a_store_is_read(rt: HostRuntime) -> Result<(), Wrong> {
+    each_line_holds(&mut Actions, rt.alloc(), OF_EXPORTERS_AND_STORES)
 }
 
 const RAW_WRITES: &str = "\
@@ -214,8 +213,8 @@ raw east delete put| => Raw { remote: 0, write: Delete { key: 'put' } }
 ";
 
 #[test]
-fn each_raw_write_is_read(rt: HostRuntime) -> Result<(), Fail> {
-    run_cases(&mut Actions, rt.alloc(), RAW_WRITES)
+fn each_raw_write_is_read(rt: HostRuntime) -> Result<(), Wrong> {
+    each_line_holds(&mut Actions, rt.alloc(), RAW_WRITES)
 }
 
 const ON_THE_WAY_TO_THE_AGENT: &str = "\
@@ -231,6 +230,6 @@ restart  agent| => RestartAgent
 ";
 
 #[test]
-fn each_action_on_the_way_to_the_agent_is_read(rt: HostRuntime) -> Result<(), Fail> {
-    run_cases(&mut Actions, rt.alloc(), ON_THE_WAY_TO_THE_AGENT)
+fn each_action_on_the_way_to_the_agent_is_read(rt: HostRuntime) -> Result<(), Wrong> {
+    each_line_holds(&mut Actions, rt.alloc(), ON_THE_WAY_TO_THE_AGENT)
 }

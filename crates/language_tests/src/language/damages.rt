@@ -1,9 +1,8 @@
-use super::{fault_of, run_cases, text};
+use super::{fault_of, text};
 use mesh_base::Memory;
 use scenario_lang::{LineFault, LineKind, Mode};
 use std::alloc::Global;
-use std::test::Fail;
-use test_cases::Answers;
+use test_cases::{Answers, Wrong, each_line_holds};
 
 const WHOLE: &str = "\
 mesh 1|local home 9|remote east 1 direct|# x|node east n1 10.0.0.1|raw east put a b|tick 5|\
@@ -100,6 +99,6 @@ cut => None
 ";
 
 #[test]
-fn a_damaged_scenario_is_refused_where_it_is_damaged(rt: HostRuntime) -> Result<(), Fail> {
-    run_cases(&mut Damages, rt.alloc(), DAMAGES)
+fn a_damaged_scenario_is_refused_where_it_is_damaged(rt: HostRuntime) -> Result<(), Wrong> {
+    each_line_holds(&mut Damages, rt.alloc(), DAMAGES)
 }

@@ -1,6 +1,6 @@
-use super::{HEAD, RUN, run_faults};
+use super::{HEAD, RUN, each_fault_holds};
 use scenario_lang::Mode;
-use std::test::Fail;
+use test_cases::Wrong;
 
 const HEADERS: &str = "\
 |# only a comment| => 3 Header
@@ -35,8 +35,8 @@ mesh 1|local home 9|report|lease 5| => 4 Header
 ";
 
 #[test]
-fn a_faulty_header_is_refused(rt: HostRuntime) -> Result<(), Fail> {
-    run_faults(rt.alloc(), Mode::Step, "", HEADERS)
+fn a_faulty_header_is_refused(rt: HostRuntime) -> Result<(), Wrong> {
+    each_fault_holds(rt.alloc(), Mode::Step, "", HEADERS)
 }
 
 const ACTIONS: &str = "\
@@ -84,8 +84,8 @@ raw east get a| => 4 Words
 ";
 
 #[test]
-fn a_faulty_action_is_refused(rt: HostRuntime) -> Result<(), Fail> {
-    run_faults(rt.alloc(), Mode::Step, HEAD, ACTIONS)
+fn a_faulty_action_is_refused(rt: HostRuntime) -> Result<(), Wrong> {
+    each_fault_holds(rt.alloc(), Mode::Step, HEAD, ACTIONS)
 }
 
 const ACTIONS_ON_THE_WAY: &str = "\
@@ -135,8 +135,8 @@ restart Agent| => 4 Words
 ";
 
 #[test]
-fn a_faulty_action_on_the_way_to_the_agent_is_refused(rt: HostRuntime) -> Result<(), Fail> {
-    run_faults(rt.alloc(), Mode::Step, HEAD, ACTIONS_ON_THE_WAY)
+fn a_faulty_action_on_the_way_to_the_agent_is_refused(rt: HostRuntime) -> Result<(), Wrong> {
+    each_fault_holds(rt.alloc(), Mode::Step, HEAD, ACTIONS_ON_THE_WAY)
 }
 
 /// Of a line its fixed words, its escapes and the number of its words come before its place, then
@@ -171,8 +171,8 @@ link east agent up|link east up| => 5 Words
 ";
 
 #[test]
-fn the_first_fault_counts(rt: HostRuntime) -> Result<(), Fail> {
-    run_faults(rt.alloc(), Mode::Step, HEAD, SEVERAL_FAULTS)
+fn the_first_fault_counts(rt: HostRuntime) -> Result<(), Wrong> {
+    each_fault_holds(rt.alloc(), Mode::Step, HEAD, SEVERAL_FAULTS)
 }
 
 const LINES_ON_THREADS: &str = "\
@@ -194,6 +194,6 @@ link east agent up|tick 0| => 5 Number
 ";
 
 #[test]
-fn threads_want_other_lines(rt: HostRuntime) -> Result<(), Fail> {
-    run_faults(rt.alloc(), RUN, HEAD, LINES_ON_THREADS)
+fn threads_want_other_lines(rt: HostRuntime) -> Result<(), Wrong> {
+    each_fault_holds(rt.alloc(), RUN, HEAD, LINES_ON_THREADS)
 }

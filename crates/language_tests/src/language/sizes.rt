@@ -1,9 +1,8 @@
-use super::{HEAD, RUN, counted, fault_of, run_cases, run_faults, text, told_fault};
+use super::{HEAD, RUN, counted, each_fault_holds, fault_of, text, told_fault};
 use mesh_base::Memory;
 use scenario_lang::Mode;
 use std::alloc::Global;
-use std::test::Fail;
-use test_cases::Answers;
+use test_cases::{Answers, Wrong, each_line_holds};
 
 const KEYS_AND_VALUES: &str = "\
 raw east delete {1024:a}| => none
@@ -16,8 +15,8 @@ raw east put cilium/state/nodes/v1/east/n2 %4 {32769:a}| => 4 Words
 ";
 
 #[test]
-fn keys_and_values_have_their_sizes(rt: HostRuntime) -> Result<(), Fail> {
-    run_faults(rt.alloc(), Mode::Step, HEAD, KEYS_AND_VALUES)
+fn keys_and_values_have_their_sizes(rt: HostRuntime) -> Result<(), Wrong> {
+    each_fault_holds(rt.alloc(), Mode::Step, HEAD, KEYS_AND_VALUES)
 }
 
 const LINES: &str = "\
@@ -28,8 +27,8 @@ const LINES: &str = "\
 ";
 
 #[test]
-fn lines_have_their_size(rt: HostRuntime) -> Result<(), Fail> {
-    run_faults(rt.alloc(), Mode::Step, HEAD, LINES)
+fn lines_have_their_size(rt: HostRuntime) -> Result<(), Wrong> {
+    each_fault_holds(rt.alloc(), Mode::Step, HEAD, LINES)
 }
 
 fn remote_line(alloc: Global, remote: usize) -> Result<String, Memory> {
@@ -77,9 +76,9 @@ const REMOTES_ON_THREADS: &str = "\
 ";
 
 #[test]
-fn there_are_at_most_255_remotes(rt: HostRuntime) -> Result<(), Fail> {
-    run_cases(&mut Remotes { mode: Mode::Step }, rt.alloc(), REMOTES)?;
-    run_cases(&mut Remotes { mode: RUN }, rt.alloc(), REMOTES_ON_THREADS)
+fn there_are_at_most_255_remotes(rt: HostRuntime) -> Result<(), Wrong> {
+    each_line_holds(&mut Remotes { mode: Mode::Step }, rt.alloc(), REMOTES)?;
+    each_line_holds(&mut Remotes { mode: RUN }, rt.alloc(), REMOTES_ON_THREADS)
 }
 
 /// Comments of 60,002 bytes and then empty lines, so many bytes together.
@@ -131,9 +130,9 @@ const WEIGHTS_ON_THREADS: &str = "\
 ";
 
 #[test]
-fn heavy_lines_want_a_short_text(rt: HostRuntime) -> Result<(), Fail> {
-    run_cases(&mut Filled { mode: Mode::Step }, rt.alloc(), WEIGHTS)?;
-    run_cases(&mut Filled { mode: RUN }, rt.alloc(), WEIGHTS_ON_THREADS)
+fn heavy_lines_want_a_short_text(rt: HostRuntime) -> Result<(), Wrong> {
+    each_line_holds(&mut Filled { mode: Mode::Step }, rt.alloc(), WEIGHTS)?;
+    each_line_holds(&mut Filled { mode: RUN }, rt.alloc(), WEIGHTS_ON_THREADS)
 }
 
 const TEXTS: &str = "\
@@ -143,6 +142,6 @@ const TEXTS: &str = "\
 ";
 
 #[test]
-fn a_text_has_its_size(rt: HostRuntime) -> Result<(), Fail> {
-    run_cases(&mut Filled { mode: Mode::Step }, rt.alloc(), TEXTS)
+fn a_text_has_its_size(rt: HostRuntime) -> Result<(), Wrong> {
+    each_line_holds(&mut Filled { mode: Mode::Step }, rt.alloc(), TEXTS)
 }

@@ -1,7 +1,8 @@
-use Rattle.std.proofs.Common.{sym, subst}
+use Rattle.std.proofs.Common.{sym, subst, true}
+use Rattle.store_api.specs.Advance.{closed}
 use Rattle.reflector.specs.Reader.{Reader, Stands}
 use Rattle.reflector.specs.Turns.{followed}
-use Rattle.reflector.proofs.Turning.{stands_turned, advance_turned, reads_turned}
+use Rattle.reflector.proofs.Turning.{stands_turned, advance_turned, order_turned, reads_turned, untaken_turned}
 use Rattle.reflector.proofs.reader.Reflector.turn.Goals as goal
 
 pub returns-clause-stands : goal.returns-clause-stands
@@ -14,3 +15,12 @@ returns-clause-advance g c r stands = advance_turned c.args.most (g.S.Store.mean
 
 pub returns-clause-reads : goal.returns-clause-reads
 returns-clause-reads g c r stands = reads_turned c.args.most (g.S.Store.meaning c.ask.new.store).contents c.args.self.now c.in_ok-turn.turn r c.in_ok-turn.ensures.answer stands
+
+pub returns-clause-in_order : goal.returns-clause-in_order
+returns-clause-in_order g c r stands are =
+    order_turned c.args.most (g.S.Store.meaning c.args.store.now).contents.history (g.S.Store.meaning c.ask.new.store).contents c.args.self.now c.in_ok-turn.turn r c.in_ok-turn.ensures.answer stands c.ask.ensures.keeps.history are
+
+pub returns-clause-untaken : goal.returns-clause-untaken
+returns-clause-untaken g c r stands are =
+    let after = untaken_turned c.args.most (g.S.Store.meaning c.args.store.now).contents.history (g.S.Store.meaning c.ask.new.store).contents c.args.self.now c.in_ok-turn.turn r c.in_ok-turn.ensures.answer stands c.ask.ensures.keeps.history are in
+    subst (λ (reader : Reader). Stands (record reader { is_waiting = true }) (closed r)) (sym c.advance.ensures) after

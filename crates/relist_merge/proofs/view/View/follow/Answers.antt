@@ -2,7 +2,8 @@ use Rattle.std.proofs.Common.{◌∙◌, ap, subst, sym}
 use Rattle.key_paths.specs.Paths.{ranges_of}
 use Rattle.synced_marks.specs.Synced.{is_synced}
 use Rattle.relist_merge.specs.Deliveries.{Delivery}
-use Rattle.relist_merge.specs.Given.{delivery_of, gone_on}
+use Rattle.store_api.specs.Given.{gone_on}
+use Rattle.relist_merge.specs.Given.{delivery_of}
 use Rattle.relist_merge.specs.Sight.{viewed}
 use Rattle.relist_merge.specs.View.{Follows, View, view_after}
 use Rattle.relist_merge.specs.Viewed.{Source, Viewed, followed}

@@ -15,6 +15,7 @@ returns c =
     λ history. record {
       ranges = ap (λ (r : Reader). r.ranges) c.new.ensures.reader ∙ c.in_ok-ranges.ensures;
       stands = c.new.ensures.stands;
+      spans = tt;
       source = ap (λ (v : Viewed). v.source) c.new-2.ensures ∙ ap (λ (k : List ℕ). source_of k) copy;
       follows = subst (λ (v : Viewed). Follows (state_of c.args.cluster.now) history unread v.shown) (sym c.new-2.ensures) (follows_new (state_of c.args.cluster.now) history);
     }

@@ -4,7 +4,7 @@ use Rattle.scenario_replay.proofs.Remotes.{asked_agent, there_for}
 use Rattle.scenario_replay.proofs.remote.Remote.turn.Goals as goal
 
 pub turn-requires-clause-there : goal.turn-requires-clause-there
-turn-requires-clause-there g c = λ runs. let w = c.requires.shown.0 in there_for w.exporter.cluster (g.S.Store.meaning c.args.store.now).contents.history w.reader c.args.self.now.agent c.requires.shown.1.agent
+turn-requires-clause-there g c = λ runs. let w = c.requires.shown.0 in there_for w.exporter.cluster (g.S.Store.meaning c.args.store.now).contents.history w.reader c.args.self.now.agent c.requires.shown.1.agent runs
 
 pub returns-clause-asks : goal.returns-clause-asks
 returns-clause-asks g c = on_ok_weaker c.turn.result

@@ -5,7 +5,7 @@ use Rattle.shared_tables.specs.Told.{told}
 use Rattle.scenario_replay.specs.Rows.{HasTables}
 use Rattle.scenario_replay.specs.declared.remote.Remote.{Remote}
 use Rattle.scenario_replay.proofs.Asked.{makes_turned}
-use Rattle.scenario_replay.proofs.Sightings.{changed_tables, kept_tables, sources_many}
+use Rattle.scenario_replay.proofs.Sightings.{changed_tables, same_tables, sources_many}
 use Rattle.scenario_replay.proofs.Worlds.{shown_some}
 use Rattle.scenario_replay.proofs.replay.Replay.turn.Goals as goal
 
@@ -67,4 +67,5 @@ returns-then-not-branch-clause-done g c =
 
 pub returns-then-not-branch-clause-told : goal.returns-then-not-branch-clause-told
 returns-then-not-branch-clause-told g c =
-    kept_tables c.args.self.now.number c.args.self.now.remotes.items c.args.self.now.sighting c.args.remote c.index_mut.result.now c.turn.new.self c.index_mut.ensures.value (c.in_ok-turn.ensures.nothing (ap Ok c.if-not-branch.true)) c.requires.told
+    same_tables c.args.self.now.number c.args.self.now.remotes.items c.args.self.now.sighting c.args.remote c.index_mut.result.now c.turn.new.self c.index_mut.ensures.value
+    (record { source = c.turn.ensures.source; entries = c.in_ok-turn.ensures.nothing (ap Ok c.if-not-branch.true) }) c.requires.told

@@ -1,16 +1,17 @@
-// The smallest value that a cell keeps, as an example of a caller.
+// The smallest value that a cell keeps, and a turn with it.
 ghost use Rattle.std.specs.Prelude.{◌≡◌, ◌++◌, false, [], ◌∷◌, OnOk, OnErr};
 ghost use Rattle.turn_cell.specs.Knowledge.{IsPassOf};
 
-use crate::cell::{Pass, TurnCell};
-use crate::kept::Kept;
 use std::alloc::{AllocError, Global};
+use std::snapshot::Snapshot;
 use std::sync::Wait;
+use turn_cell::{Kept, Log, Pass, TurnCell};
 
-/// A list of numbers, each with its owner.
+/// Numbers, each with its owner, and the log of their additions, which contracts alone see.
 #[derive(Drop)]
 pub struct Tally {
-    pub log: Vec<(u32, u64)>,
+    pub numbers: Vec<(u32, u64)>,
+    pub log: Log<u64>,
 }
 
 impl Kept for Tally {
@@ -18,7 +19,7 @@ impl Kept for Tally {
 
     type Fixed = ();
 
-    ghost log = { λ t. t.log.items };
+    ghost log = { λ t. t.log };
 
     ghost fixed = { λ _. tt };
 }
@@ -26,19 +27,21 @@ impl Kept for Tally {
 impl Tally {
     /// An empty tally.
     pub fn new(alloc: Global) -> Tally
-        ensures { result.log.items ≡ [] }
+        ensures { result.log ≡ [] }
     {
         Tally {
-            log: Vec::new(alloc),
+            numbers: Vec::new(alloc),
+            log: Log::new(),
         }
     }
 
     /// Puts a number of this owner behind the others; an `Err` changes nothing.
     pub fn add(&mut self, owner: u32, number: u64) -> Result<(), AllocError>
-        ensures ok { OnOk result (self.new.log.items ≡ self.old.log.items ++ (owner, number) ∷ []) }
-        ensures err { OnErr result (self.new.log.items ≡ self.old.log.items) }
+        ensures ok { OnOk result (self.new.log ≡ self.old.log ++ (owner, number) ∷ []) }
+        ensures err { OnErr result (self.new.log ≡ self.old.log) }
     {
-        self.log.push((owner, number))?;
+        self.numbers.push((owner, number))?;
+        self.log.note(owner, Snapshot::of(&number));
         Ok(())
     }
 }
