@@ -48,7 +48,7 @@ prove() {
     libraries=$(libraries_below mesh_replay)
     count=$(($(echo "$libraries" | wc -l) + 1))
     number=0
-    say "not proved on this machine yet: proving $count crates, which is some sixty processor minutes ('$0 --unproved $*' answers in a minute or two)"
+    say "not proved on this machine yet: proving $count crates, one after another, which took an hour on one processor of 2.5 GHz ('$0 --unproved $*' answers in a minute or two)"
     for crate in $libraries; do
         number=$((number + 1))
         say "proving $crate ($number of $count)"

@@ -33,6 +33,11 @@ differs_back a b lt = grind (arith, nat_tests)
 same : (a b : ℕ) → a ≡ b → (a == b) ≡ true
 same a b e = grind (arith, nat_tests)
 
+-- when a lease ends, where it has not ended
+when_there : (o : Option ℕ) → IsTrue (is_some o) → Some (when o) ≡ o
+when_there None there = cc
+when_there (Some deadline) there = refl
+
 module _ (last : ℕ) where
   -- each number is above where they begin
   pub above : (low i : ℕ) (live : List Lease) (d : Lease) → IsNumbered low live last → i < length live → let lease = get_or live i d in low < lease.number
@@ -140,6 +145,17 @@ module _ (last : ℕ) where
         elim (is_some x.deadline) as (λ b. option_map deadline (find (has n) (map (kept_alive now n) (map lease_of (cond b (x ∷ filter is_running xs) (filter is_running xs))))) ≡ Some (deadline_at now (get_or xs i d).seconds))
         [ true ↦ rw (other, other) others | false ↦ others ]
 
+    -- the deadline of a live lease is that of its entry
+    pub deadline_found : (low i : ℕ) (es : List Entry) (d : Entry) → IsNumbered low (map lease_of es) last → i < length es
+        → let e = get_or es i d in (e.number ≡ n) → IsTrue (is_running e) → option_map deadline (find (has n) (leases_of es)) ≡ e.deadline
+    deadline_found low i [] d h lt e running = absurd (omega arith)
+    deadline_found low zero (x ∷ xs) d h lt e running = rw (running, same x.number n e) (when_there x.deadline running)
+    deadline_found low (suc i) (x ∷ xs) d h lt e running =
+        let others = deadline_found x.number i xs d h.1 (omega arith) e running in
+        let other = differs x.number n (below i x xs d h.1 (omega arith) e) in
+        elim (is_some x.deadline) as (λ b. option_map deadline (find (has n) (map lease_of (cond b (x ∷ filter is_running xs) (filter is_running xs)))) ≡ (get_or xs i d).deadline)
+        [ true ↦ rw other others | false ↦ others ]
+
     -- a live lease is found
     pub found : (i : ℕ) (es : List Entry) (d : Entry) → i < length es → let e = get_or es i d in (e.number ≡ n) → IsTrue (is_running e) → is_live_lease (leases_of es) n ≡ true
     found i [] d lt e running = absurd (omega arith)
@@ -177,6 +193,13 @@ none_gone n (x ∷ xs) h =
       | true ↦ λ t. cc
       | false ↦ λ t. ap (λ (l : List Lease). x ∷ l) (none_gone n xs t)
     ] h
+
+-- and has no deadline
+pub deadline_none : (n : ℕ) (live : List Lease) → is_live_lease live n ≡ false → option_map deadline (find (has n) live) ≡ None
+deadline_none n [] h = refl
+deadline_none n (x ∷ xs) h =
+    elim (x.number == n) as (λ b. (b || is_live_lease xs n) ≡ false → option_map deadline (cond b (Some x) (find (has n) xs)) ≡ None)
+    [ true ↦ λ t. cc | false ↦ λ t. deadline_none n xs t ] h
 
 -- a push of a live lease
 pub leases_push : (es : List Entry) (w : Entry) → IsTrue (is_running w) → leases_of (es ++ w ∷ []) ≡ leases_of es ++ lease_of w ∷ []

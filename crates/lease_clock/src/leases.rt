@@ -72,6 +72,15 @@ impl Leases {
         place_of(&self.kept, lease).is_some()
     }
 
+    /// The deadline of the lease, or `None` where it is not live. Logarithmic in the live leases;
+    /// takes no memory.
+    pub fn deadline(&self, lease: u64) -> Option<u64>
+        ensures { result ≡ deadline_of lease self.now }
+    {
+        let place = place_of(&self.kept, lease)?;
+        self.kept[place].deadline
+    }
+
     /// Grants a lease of so many seconds, and answers its number (etcd: LeaseGrant).
     ///
     /// Numbers are granted from 1 upwards, and none twice. Once 2 ^ 64 - 1 is granted there is no

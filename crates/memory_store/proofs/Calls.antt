@@ -3,27 +3,29 @@ use Rattle.std.proofs.Common.{◌≡◌, ℕ, ◌+◌, ◌==◌, List, [], ◌�
 use Rattle.std.proofs.lemmas.List.{append-nil}
 use Rattle.store_api.specs.Attached.{all_lapsed, attached_keys, deletions, lapsed}
 use Rattle.store_api.specs.History.{Begins, History, with_revision}
-use Rattle.store_api.specs.Contents.{Contents, after_commit, after_keep_alive, after_tick}
+use Rattle.store_api.specs.Contents.{Contents, empty_contents, after_commit, after_keep_alive, after_tick}
 use Rattle.store_api.specs.Leases.{Lease, advanced, deadline_at, due_leases, is_live_lease, kept_alive}
 use Rattle.store_api.specs.Meaning.{Finds, Keeps, Makes}
 use Rattle.store_api.specs.declared.change.Change.{Change}
 use Rattle.store_api.specs.declared.change.Op.{Op}
-use Rattle.memory_store.specs.Entries.{Entry, Committed, after_entries, after_entry, contents_of}
+use Rattle.memory_store.specs.declared.entry.StoreEntry.{StoreEntry}
+use Rattle.memory_store.specs.declared.entry.StoreEntry.TheVariants.{Committed}
+use Rattle.memory_store.specs.Entries.{StoreLog, after_entries, after_entry, contents_of}
 use Rattle.memory_store.specs.Stored.{Stored, history_of, leases_of, meaning_of, with_entry, logged}
 
--- ---- one entry more
-after_more : (contents : Contents) (log : List Entry) (e : Entry) → after_entries contents (log ++ e ∷ []) ≡ after_entry (after_entries contents log) e
-after_more contents [] e = refl
-after_more contents (x ∷ log) e = after_more (after_entry contents x) log e
+-- ---- one log behind another, and one entry more
+pub after_both : (contents : Contents) (first then : StoreLog) → after_entries contents (first ++ then) ≡ after_entries (after_entries contents first) then
+after_both contents [] then = refl
+after_both contents (e ∷ first) then = after_both (after_entry contents e.1) first then
 
-pub contents_more : (log : List Entry) (e : Entry) → contents_of (log ++ e ∷ []) ≡ after_entry (contents_of log) e
-contents_more log e = after_more _ log e
+pub contents_more : (log : StoreLog) (e : ℕ × StoreEntry) → contents_of (log ++ e ∷ []) ≡ after_entry (contents_of log) e.1
+contents_more log e = after_both empty_contents log (e ∷ [])
 
-contents_with : (log : List Entry) (writer : ℕ) (changes : List Change) → contents_of (with_entry log writer changes) ≡ record (contents_of log) { history = with_revision (history_of log) changes }
+contents_with : (log : StoreLog) (writer : ℕ) (changes : List Change) → contents_of (with_entry log writer changes) ≡ record (contents_of log) { history = with_revision (history_of log) changes }
 contents_with log writer [] = refl
-contents_with log writer (c ∷ changes) = contents_more log (Committed writer (c ∷ changes))
+contents_with log writer (c ∷ changes) = contents_more log (writer, Committed (c ∷ changes))
 
-pub contents_logged : (log : List Entry) (writer : ℕ) (ops : List Op) → contents_of (logged log writer ops) ≡ after_commit ops (contents_of log)
+pub contents_logged : (log : StoreLog) (writer : ℕ) (ops : List Op) → contents_of (logged log writer ops) ≡ after_commit ops (contents_of log)
 contents_logged log writer ops = contents_with log writer _
 
 -- ---- the meaning
@@ -60,7 +62,7 @@ same_history old new begins = record { history = begins; faults = omega arith; q
 pub tick_keeps : {T E : Type 0} (r : Result T E) (old new : Stored) (seconds : ℕ) → OnOk r (contents_of new.log ≡ after_tick seconds (contents_of old.log)) → OnErr r (new.log ≡ old.log) → Keeps (meaning_of old) (meaning_of new)
 tick_keeps (Ok x) old new seconds contents same =
     same_history old new (subst (λ (c : Contents). Begins (history_of old.log) c.history) (sym contents) (lapsed_begins (history_of old.log) (let now = contents_of old.log in due_leases (advanced seconds now.leases))))
-tick_keeps (Err e) old new seconds contents same = same_history old new (subst (λ (log : List Entry). Begins (history_of old.log) (history_of log)) (sym same) ([], sym (append-nil (history_of old.log))))
+tick_keeps (Err e) old new seconds contents same = same_history old new (subst (λ (log : StoreLog). Begins (history_of old.log) (history_of log)) (sym same) ([], sym (append-nil (history_of old.log))))
 
 -- ---- a lease kept alive
 same_number : (now n : ℕ) (lease : Lease) (b : Bool) → let moved = cond b (record lease { deadline = deadline_at now lease.seconds }) lease in (moved.number == n) ≡ (lease.number == n)
@@ -71,7 +73,7 @@ still_live : (now n : ℕ) (live : List Lease) → is_live_lease (map (kept_aliv
 still_live now n [] = refl
 still_live now n (x ∷ xs) = ap₂ ◌||◌ (same_number now n x (x.number == n)) (still_live now n xs)
 
-pub keep_live : {T E : Type 0} (r : Result T E) (old new : List Entry) (lease : ℕ) → (let table = leases_of old in OnOk r (is_live_lease table.live lease ≡ true)) → OnOk r (contents_of new ≡ after_keep_alive lease (contents_of old))
+pub keep_live : {T E : Type 0} (r : Result T E) (old new : StoreLog) (lease : ℕ) → (let table = leases_of old in OnOk r (is_live_lease table.live lease ≡ true)) → OnOk r (contents_of new ≡ after_keep_alive lease (contents_of old))
     → (let table = leases_of new in OnOk r (is_live_lease table.live lease ≡ true))
 keep_live (Ok x) old new lease live contents =
     ap (λ (c : Contents). let table = c.leases in is_live_lease table.live lease) contents ∙ still_live (let table = leases_of old in table.now) lease (let table = leases_of old in table.live) ∙ live

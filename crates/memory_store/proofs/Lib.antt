@@ -1,5 +1,6 @@
 mod Calls
 pub mod CallerLemmas
+mod Effects
 mod Expiry
 mod Forms
 mod Fronts
@@ -9,3 +10,4 @@ mod Keeping
 mod Logs
 mod Sets
 mod Watched
+mod Writing

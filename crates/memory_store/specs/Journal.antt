@@ -7,7 +7,8 @@ use Rattle.store_api.specs.Leases.{no_leases}
 use Rattle.store_api.specs.declared.change.Change.{Change}
 use Rattle.store_api.specs.declared.change.Change.TheVariants as change
 use Rattle.store_api.specs.declared.change.Revision.{Revision}
-use Rattle.memory_store.specs.Entries.{Entry, Committed, Compacted}
+use Rattle.memory_store.specs.declared.entry.StoreEntry.TheVariants.{Committed, Compacted}
+use Rattle.memory_store.specs.Entries.{StoreLog}
 use Rattle.memory_store.specs.Formed.{IsRevision}
 
 -- the change attaches its key to no lease
@@ -38,16 +39,16 @@ pub record IsJournal (journal : List Revision) (compacted : ℕ) : Type 0 where
   pub within : compacted ≤ revision (history_of_journal journal)
 
 -- a commit for each revision, by its writer
-abbrev pub commits_of_journal : List Revision → List Entry
-commits_of_journal journal = map (λ (r : Revision). Committed r.writer r.changes) journal
+abbrev pub commits_of_journal : List Revision → StoreLog
+commits_of_journal journal = map (λ (r : Revision). (r.writer, Committed r.changes)) journal
 
--- a compaction by writer 0, where one was made
-abbrev pub compaction : ℕ → List Entry
+-- a compaction by owner 0, where one was made
+abbrev pub compaction : ℕ → StoreLog
 compaction zero = []
-compaction (suc upto) = Compacted 0 (suc upto) ∷ []
+compaction (suc upto) = (0, Compacted (suc upto)) ∷ []
 
 -- the log that begins with the journal
-abbrev pub log_of_journal : List Revision → ℕ → List Entry
+abbrev pub log_of_journal : List Revision → ℕ → StoreLog
 log_of_journal journal compacted = commits_of_journal journal ++ compaction compacted
 
 -- what a store holds that is made of the journal: no lease was granted, and its clock is at 0

@@ -13,13 +13,18 @@ use Rattle.store_api.specs.declared.change.Pair.{Pair}
 use Rattle.store_api.specs.declared.change.Range.{Range}
 use Rattle.memory_store.specs.declared.live.Current.{Current}
 use Rattle.memory_store.specs.declared.live.Made.{Made}
-use Rattle.memory_store.specs.Entries.{Entry, contents_of}
+use Rattle.memory_store.specs.Entries.{StoreLog, contents_of}
 use Rattle.memory_store.specs.Formed.{IsFormed}
 use Rattle.memory_store.specs.Index.{HasKeys}
+use Rattle.memory_store.specs.Writers.{writers_of}
 
 -- the history of the kept revisions
 abbrev pub history_in : List Made → History
 history_in history = map (λ (made : Made). made.changes) history
+
+-- the writers of the kept revisions
+abbrev pub writers_in : List Made → List ℕ
+writers_in history = map (λ (made : Made). made.writer) history
 
 -- the map has what is live at the revision of the history
 abbrev pub HasLive : History → BTreeMap (List ℕ) (List ℕ) → Type 0
@@ -47,8 +52,9 @@ pub record IsAfter (changes : List Change) (old new : Current) : Type 0 where
   pub keys : HasKeys new.attached.leases new.attached.keys
 
 -- what holds of the fields of every store
-pub record IsKept (log : List Entry) (history : List Made) (compacted : ℕ) (leases : LeaseTable) (kept : Option Current) : Type 0 where
+pub record IsKept (log : StoreLog) (history : List Made) (compacted : ℕ) (leases : LeaseTable) (kept : Option Current) : Type 0 where
   pub contents : contents_of log ≡ record { history = history_in history; compacted = compacted; leases = leases }
+  pub writers : writers_in history ≡ writers_of log
   pub few : length history ≤ 2 ^ 63 - 2
   pub formed : IsFormed (history_in history)
   pub current : IsCurrent (history_in history) kept

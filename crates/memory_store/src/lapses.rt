@@ -1,7 +1,7 @@
 // What the lapse of leases deletes.
-ghost use Rattle.std.specs.Prelude.{IfOk};
+ghost use Rattle.std.specs.Prelude.{◌≡◌, length, replicate, IfOk};
 ghost use Rattle.store_api.specs.History.{History};
-ghost use Rattle.memory_store.specs.Kept.{IsCurrentIn, history_in};
+ghost use Rattle.memory_store.specs.Kept.{IsCurrentIn, history_in, writers_in};
 ghost use Rattle.memory_store.specs.Lapses.{AllLapse, Deletes, Lapses};
 
 use crate::live::{Current, Made};
@@ -37,14 +37,15 @@ fn lapse(alloc: Global, current: &mut Current, lease: u64) -> Result<Vec<Change>
     }
 }
 
-/// The revisions that the leases make as they lapse, one after another.
+/// The revisions that the leases make as they lapse, one after another, each by the writer.
 pub fn lapses(
     alloc: Global,
     current: &mut Current,
     writer: u32,
     leases: &[u64],
 ) -> Result<Vec<Made>, Memory>
-    ensures { IfOk result (λ made. (history : History) → IsCurrentIn history current.old → AllLapse history leases.now (history_in made.items) current.new) }
+    ensures lapse { IfOk result (λ made. (history : History) → IsCurrentIn history current.old → AllLapse history leases.now (history_in made.items) current.new) }
+    ensures writers { IfOk result (λ made. writers_in made.items ≡ replicate (length made.items) writer) }
 {
     let mut made = Vec::new(alloc);
     for lease in leases {

@@ -1,26 +1,30 @@
-ghost use Rattle.std.specs.Prelude.{◌≡◌, ◌≢◌, ◌≤◌, ◌+◌, ◌⊎◌, ◌++◌, ◌∷◌, ℕ, List, [], true, false, length, map, OnOk, OnErr, IfOk, IfErr, Some, None};
+ghost use Rattle.std.specs.Prelude.{◌≡◌, ◌≢◌, ◌<◌, ◌≤◌, ◌+◌, ◌⊎◌, ◌++◌, ◌∷◌, ℕ, List, [], true, false, length, map, IsOk, OnOk, OnErr, IfOk, IfErr, Some, None};
 ghost use Rattle.std.specs.List.{IsDistinct};
 ghost use Rattle.mesh_base.specs.Order.{same_bytes};
 ghost use Rattle.store_api.specs.History.{key_of, revision};
-ghost use Rattle.store_api.specs.Contents.{after_commit, after_compact, after_grant, after_keep_alive, after_tick, dead_lease, empty_contents};
+ghost use Rattle.store_api.specs.Contents.{IsBatch, after_commit, after_compact, after_grant, after_keep_alive, after_tick, dead_lease, empty_contents, unchanged};
 ghost use Rattle.store_api.specs.Leases.{is_live_lease};
-ghost use Rattle.memory_store.specs.Entries.{Compacted, Granted, KeptAlive, Ticked, contents_of};
+ghost use Rattle.store_api.specs.Meaning.{Keeps, Makes, MayMake};
+ghost use Rattle.store_api.specs.declared.change.Revision.{Revision};
+ghost use Rattle.memory_store.specs.declared.entry.StoreEntry.TheVariants.{Granted, Ticked};
+ghost use Rattle.memory_store.specs.Entries.{contents_of};
 ghost use Rattle.memory_store.specs.Formed.{IsFormed};
 ghost use Rattle.memory_store.specs.Journal.{IsJournal, contents_of_journal, log_of_journal};
-ghost use Rattle.memory_store.specs.Stored.{history_of, leases_of, logged, meaning_of};
+ghost use Rattle.memory_store.specs.Stored.{history_of, leases_of, logged, meaning_of, with_compaction, with_keep_alive};
+ghost use Rattle.memory_store.specs.Writers.{NameWriters, writers_of};
 
-use crate::journal::{Replayed, replay, with_compaction};
+use crate::entry::{StoreEntry, committed, note, note_where};
+use crate::journal::{Replayed, note_compaction, replay};
 use crate::lapses::lapses;
 use crate::listing::listed;
 use crate::live::{Current, Made, apply_changes, changes_over, dead_lease, live_after, live_now};
-use crate::log::Log;
 use crate::watch::delivered;
 use lease_clock::Leases;
-use mesh_base::{Count, Items, Memory};
+use mesh_base::{Count, Memory};
 use std::alloc::Global;
 use std::marker::Model;
-use std::snapshot::Snapshot;
 use store_api::{Batch, Listing, MAX_OPS, Op, Ranges, Revision, Store, StoreAdmin, StoreFault};
+use turn_cell::{Kept, Log};
 
 /// The most revisions of one store, so that numbers stay below 2 ^ 63.
 const MOST_REVISIONS: usize = (1 << 63) - 2;
@@ -35,7 +39,7 @@ pub struct MemoryStore {
     leases: Leases,
     /// What is live now; not there after a call that wanted memory, and made again at the next one.
     current: Option<Current>,
-    log: Log,
+    log: Log<StoreEntry>,
     calls: Count,
 }
 
@@ -48,6 +52,16 @@ impl Model for MemoryStore {
     ghost view = { λ s. record { log = s.log; calls = s.calls } };
 
     ghost invariant = { λ s. IsKept s.log s.history.items s.compacted s.leases s.current };
+}
+
+impl Kept for MemoryStore {
+    type Entry = StoreEntry;
+
+    type Fixed = ();
+
+    ghost log = { λ s. s.log };
+
+    ghost fixed = { λ _. tt };
 }
 
 impl MemoryStore {
@@ -85,6 +99,7 @@ impl MemoryStore {
         requires { IsJournal journal.items compacted }
 
         ensures log { IfOk result (λ store. store.log ≡ log_of_journal journal.items compacted) }
+        ensures writers { IfOk result (λ store. writers_of store.log ≡ map (λ (r : Revision). r.writer) journal.items) }
         ensures contents { IfOk result (λ store. (⟦<MemoryStore as Store>⟧.meaning store).contents ≡ contents_of_journal journal.items compacted) }
         ensures faults { IfOk result (λ store. (⟦<MemoryStore as Store>⟧.meaning store).faults ≡ 0) }
         ensures calls { IfOk result (λ store. (⟦<MemoryStore as Store>⟧.meaning store).calls ≡ 0) }
@@ -99,7 +114,7 @@ impl MemoryStore {
             compacted,
             leases: Leases::new(alloc),
             current: Some(current),
-            log: with_compaction(log, compacted),
+            log: note_compaction(log, compacted),
             calls: Count::new(),
         })
     }
@@ -147,11 +162,10 @@ impl MemoryStore {
             return Err(StoreFault::Memory);
         }
         apply_changes(alloc, &mut current, changes.as_slice())?;
-        let changes = Items::from_vec(changes);
-        let noted = Snapshot::of(&changes);
+        let (changes, noted) = committed(changes);
         self.history.push(Made { writer, changes })?;
         self.current = Some(current);
-        self.log.committed(writer, noted);
+        self.log.note(writer, noted);
         Ok(at as u64 + 2)
     }
 
@@ -162,7 +176,7 @@ impl MemoryStore {
     pub fn grant_as(&mut self, writer: u32, seconds: u64) -> Result<u64, StoreFault>
         requires { 1 ≤ seconds }
 
-        ensures log { OnOk result (self.new.log ≡ self.old.log ++ Granted writer seconds ∷ []) }
+        ensures log { OnOk result (self.new.log ≡ self.old.log ++ (writer, Granted seconds) ∷ []) }
         ensures contents { OnOk result (contents_of self.new.log ≡ after_grant seconds (contents_of self.old.log)) }
         ensures number { IfOk result (λ number. number ≡ (leases_of self.new.log).last) }
         ensures refused { OnErr result (self.new.log ≡ self.old.log) }
@@ -172,13 +186,15 @@ impl MemoryStore {
     {
         self.calls.raise();
         let number = self.leases.grant(seconds)?;
-        self.log.granted(writer, seconds);
+        note(&mut self.log, writer, StoreEntry::Granted(seconds));
         Ok(number)
     }
 
     /// `keep_alive` by this writer. Logarithmic in the live leases; takes no memory.
+    ///
+    /// Where the deadline stays as it is the log does too.
     pub fn keep_as(&mut self, writer: u32, lease: u64) -> Result<(), StoreFault>
-        ensures log { OnOk result (self.new.log ≡ self.old.log ++ KeptAlive writer lease ∷ []) }
+        ensures log { OnOk result (self.new.log ≡ with_keep_alive self.old.log writer lease) }
         ensures contents { OnOk result (contents_of self.new.log ≡ after_keep_alive lease (contents_of self.old.log)) }
         ensures refused { OnErr result (self.new.log ≡ self.old.log) }
 
@@ -190,10 +206,13 @@ impl MemoryStore {
         ensures calls { self.new.calls ≡ self.old.calls + 1 }
     {
         self.calls.raise();
-        let Some(_) = self.leases.renew(lease) else {
+        self.leases.is_numbered();
+        let before = self.leases.deadline(lease);
+        let Some(deadline) = self.leases.renew(lease) else {
             return Err(StoreFault::NoLease { lease });
         };
-        self.log.kept_alive(writer, lease);
+        let moves = before != Some(deadline);
+        note_where(moves, &mut self.log, writer, StoreEntry::KeptAlive(lease));
         Ok(())
     }
 
@@ -204,7 +223,7 @@ impl MemoryStore {
     /// logarithmic in the live ones. A store at its last revision answers `Memory` to a tick that
     /// makes one.
     pub fn tick_as(&mut self, alloc: Global, writer: u32, seconds: u64) -> Result<u64, StoreFault>
-        ensures log { OnOk result (self.new.log ≡ self.old.log ++ Ticked writer seconds ∷ []) }
+        ensures log { OnOk result (self.new.log ≡ self.old.log ++ (writer, Ticked seconds) ∷ []) }
         ensures contents { OnOk result (contents_of self.new.log ≡ after_tick seconds (contents_of self.old.log)) }
         ensures revision { IfOk result (λ number. number ≡ revision (history_of self.new.log)) }
         ensures refused { OnErr result (self.new.log ≡ self.old.log) }
@@ -215,7 +234,7 @@ impl MemoryStore {
         self.calls.raise();
         if !self.leases.has_due_after(seconds) {
             self.leases.advance(seconds);
-            self.log.ticked(writer, seconds);
+            note(&mut self.log, writer, StoreEntry::Ticked(seconds));
             return Ok(self.history.len() as u64 + 1);
         }
         let due = self.leases.due_after(alloc, seconds)?;
@@ -228,23 +247,28 @@ impl MemoryStore {
         self.current = Some(current);
         self.leases.advance(seconds);
         self.leases.expire();
-        self.log.ticked(writer, seconds);
+        note(&mut self.log, writer, StoreEntry::Ticked(seconds));
         Ok(self.history.len() as u64 + 1)
     }
 
-    /// `compact` by this writer. Constant; takes no memory.
-    pub fn compact_as(&mut self, writer: u32, upto: u64) -> u64
-        ensures log { self.new.log ≡ self.old.log ++ Compacted writer upto ∷ [] }
-        ensures contents { contents_of self.new.log ≡ after_compact upto (contents_of self.old.log) }
-        ensures number { result ≡ (contents_of self.new.log).compacted }
+    /// `compact` by this writer. Constant; takes no memory, and is always served.
+    ///
+    /// Where the compacted revision stays as it is the log does too.
+    pub fn compact_as(&mut self, writer: u32, upto: u64) -> Result<u64, Memory>
+        ensures served { IsOk result }
+        ensures log { OnOk result (self.new.log ≡ with_compaction self.old.log writer upto) }
+        ensures contents { OnOk result (contents_of self.new.log ≡ after_compact upto (contents_of self.old.log)) }
+        ensures number { IfOk result (λ number. number ≡ (contents_of self.new.log).compacted) }
 
         ensures calls { self.new.calls ≡ self.old.calls + 1 }
     {
         self.calls.raise();
         let revision = self.history.len() as u64 + 1;
-        self.compacted = self.compacted.max(upto.min(revision));
-        self.log.compacted(writer, upto);
-        self.compacted
+        let compacted = self.compacted.max(upto.min(revision));
+        let raises = self.compacted < compacted;
+        self.compacted = compacted;
+        note_where(raises, &mut self.log, writer, StoreEntry::Compacted(upto));
+        Ok(compacted)
     }
 }
 
@@ -272,7 +296,26 @@ impl Store for MemoryStore {
         ranges: &Ranges,
         from: u64,
         most: u64,
-    ) -> Result<Batch, StoreFault> {
+    ) -> Result<Batch, StoreFault>
+        requires { 1 ≤ from }
+        ensures batch { IfOk result (IsBatch ranges.now.items from most (meaning_of self.new).contents) }
+        ensures made { OnOk result (Makes (meaning_of self.old) (meaning_of self.new) unchanged) }
+
+        ensures there { OnOk result ((meaning_of self.new).contents.compacted < from) }
+        ensures compacted { (compacted : ℕ) → result ≡ Err (StoreFault.Compacted compacted) → (compacted ≡ (meaning_of self.new).contents.compacted) × (from ≤ compacted) }
+
+        ensures lost { result ≡ Err StoreFault.Lost → MayMake (meaning_of self.old) (meaning_of self.new) unchanged }
+        ensures refused { IfErr result (λ fault. fault ≢ StoreFault.Lost → Makes (meaning_of self.old) (meaning_of self.new) unchanged) }
+        ensures not_no_lease { (lease : ℕ) → result ≢ Err (StoreFault.NoLease lease) }
+
+        ensures keeps { Keeps (meaning_of self.old) (meaning_of self.new) }
+
+        // Each revision names who wrote it.
+        ensures writers { IfOk result (λ batch. NameWriters self.new.log batch.revisions) }
+
+        ensures log { self.new.log ≡ self.old.log }
+        ensures calls { self.new.calls ≡ self.old.calls + 1 }
+    {
         self.calls.raise();
         if from <= self.compacted {
             return Err(StoreFault::Compacted {
@@ -305,6 +348,6 @@ impl StoreAdmin for MemoryStore {
     }
 
     fn compact(&mut self, _: Global, upto: u64) -> Result<u64, Memory> {
-        Ok(self.compact_as(0, upto))
+        self.compact_as(0, upto)
     }
 }

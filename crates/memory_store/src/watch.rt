@@ -3,7 +3,8 @@ ghost use Rattle.std.specs.Prelude.{◌≡◌, ◌≤◌, ◌+◌, ◌^◌, ◌�
 ghost use Rattle.store_api.specs.Followed.{changed_key, part_of, parts};
 ghost use Rattle.store_api.specs.History.{in_range, in_ranges};
 ghost use Rattle.store_api.specs.declared.change.Change.{Change};
-ghost use Rattle.memory_store.specs.Kept.{history_in};
+ghost use Rattle.memory_store.specs.Kept.{history_in, writers_in};
+ghost use Rattle.memory_store.specs.Writers.{AreWrittenBy};
 
 use crate::live::Made;
 use mesh_base::{Bytes, Items, Memory};
@@ -65,7 +66,7 @@ fn changes_in(alloc: Global, ranges: &Ranges, changes: &[Change]) -> Result<Vec<
 }
 
 /// The revisions above `after` and up to `upto` that change a key of the ranges, with these changes
-/// alone.
+/// alone, each with its writer.
 pub fn delivered(
     alloc: Global,
     history: &[Made],
@@ -74,7 +75,8 @@ pub fn delivered(
     upto: u64,
 ) -> Result<Items<Revision>, Memory>
     requires { (upto ≤ after) ⊎ (upto ≤ length history.now + 1) }
-    ensures { IfOk result (λ revisions. map part_of revisions ≡ parts (in_ranges ranges.now.items) (history_in history.now) after upto) }
+    ensures parts { IfOk result (λ revisions. map part_of revisions ≡ parts (in_ranges ranges.now.items) (history_in history.now) after upto) }
+    ensures writers { IfOk result (λ revisions. AreWrittenBy (writers_in history.now) revisions) }
 {
     let mut revisions = Vec::new(alloc);
     for place in after.max(1) - 1..upto.max(1) - 1 {

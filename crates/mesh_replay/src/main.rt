@@ -3,12 +3,17 @@
 //! The replay is the crate `scenario_replay`; here are its adapters over the process.
 #![tactic(auto)]
 
+ghost use Rattle.std.specs.Prelude.{◌≡◌};
+ghost use Rattle.mesh_replay.specs.Statuses.{status_number};
+
 use scenario_replay::{Status, fresh_stores, mesh_steps};
 use std::process::ExitCode;
 use std::{env, io};
 use store_api::{ReaderSource, WriterSink};
 
-fn status_number(status: Status) -> u8 {
+fn status_number(status: Status) -> u8
+    ensures { result ≡ status_number status }
+{
     match status {
         Status::Done => 0,
         Status::Usage => 1,
@@ -29,8 +34,11 @@ fn words_of(rt: &HostRuntime) -> io::Result<Vec<String>> {
 
 fn serve(rt: &HostRuntime) -> Status {
     let alloc = rt.alloc();
-    let Ok(words) = words_of(rt) else {
-        return Status::Memory;
+    let words = match words_of(rt) {
+        Ok(words) => words,
+        // Words that are no UTF-8 are none that the program serves.
+        Err(error) if error.kind() == io::ErrorKind::InvalidData => Vec::new(alloc),
+        Err(_) => return Status::Memory,
     };
     let Ok(mut stores) = fresh_stores(alloc) else {
         return Status::Memory;

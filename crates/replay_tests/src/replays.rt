@@ -3,12 +3,9 @@ ghost use Rattle.scenario_replay.specs.Goes.{IsOpen};
 
 mod bytewise;
 mod journals;
-mod linked;
 
 use bytewise::{BytewiseSink, BytewiseSource};
-use flaky_link::When;
 use journals::journaled_stores;
-use linked::linked_stores;
 use mesh_base::Memory;
 use scenario_replay::{Status, fresh_stores, mesh_steps};
 use std::alloc::Global;
@@ -261,49 +258,4 @@ fn stores_may_hold_records_already(rt: HostRuntime) -> Result<(), Fail> {
         "Done|report 1|source east direct 3|node east n7|end|"
     );
     Ok(())
-}
-
-// Two puts and a listing; the first put is the config's, without which no node counts.
-const PUTS: &str = "mesh 1\n\
-local home 9\n\
-remote east 1 direct\n\
-raw east put cilium/cluster-config/east {\"id\":1}\n\
-raw east put cilium/state/nodes/v1/east/n1 {\"Name\":\"n1\",\"Cluster\":\"east\",\"ClusterID\":1,\"IPAddresses\":[{\"Type\":\"InternalIP\",\"IP\":\"10.0.0.1\"}]}\n\
-turn agent east all\n\
-report\n";
-
-/// Asked how many calls of the remote's store pass, and whether the next one is lost before or after it is
-/// made.
-#[derive(Drop)]
-struct Losses;
-
-impl Answers for Losses {
-    fn answer(&mut self, alloc: Global, asked: &str) -> Result<String, Memory> {
-        let (passing, moment) = asked.split_once(" ").unwrap_or((asked, ""));
-        let when = if moment == "after" {
-            When::After
-        } else {
-            When::Before
-        };
-        let source = source_of(alloc, PUTS.as_bytes())?;
-        let mut stores = linked_stores(alloc, number(passing), when)?;
-        told(
-            alloc,
-            "step",
-            source,
-            roomy_sink(alloc)?,
-            stores.as_mut_slice(),
-        )
-    }
-}
-
-const LOSSES: &str = "0 before => Done|report 1|source east direct held 2|end|\n\
-0 after => Done|report 1|source east direct 3|node east n1 InternalIP=10.0.0.1|end|\n\
-2 before => Done|report 1|source east direct held 0|end|\n\
-2 after => Done|report 1|source east direct held 0|end|\n\
-";
-
-#[test]
-fn a_lost_call_of_a_store_is_no_refusal(rt: HostRuntime) -> Result<(), Wrong> {
-    each_line_holds(&mut Losses, rt.alloc(), LOSSES)
 }

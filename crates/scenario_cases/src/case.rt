@@ -1,3 +1,4 @@
+use crate::planned::{Planned, read_planned};
 use crate::replayed::replayed;
 use std::alloc::Global;
 use store_api::Memory;
@@ -31,10 +32,10 @@ fn first_different<'a>(wanted: &'a str, came: &'a str) -> (&'a str, &'a str) {
 fn tell(
     alloc: Global,
     name: &str,
-    scenario: &str,
+    planned: &Planned,
     wanted: &str,
 ) -> Result<(Verdict, String), Memory> {
-    let came = replayed(alloc, scenario)?;
+    let came = replayed(alloc, planned)?;
     if came.as_str() == wanted {
         return Ok((Verdict::Ok, format!(in alloc; "{name}: ok")?));
     }
@@ -45,12 +46,13 @@ fn tell(
 
 /// The verdict on the scenario behind a name, which must come to this, and the line that tells it.
 fn tell_named(alloc: Global, named: &str, wanted: &str) -> Result<(Verdict, String), Memory> {
-    match named.split_once("\n") {
-        Some((name, lines)) => {
-            let scenario = format!(in alloc; "{lines}\n")?;
-            tell(alloc, name, &scenario, wanted)
+    let name = named.split("\n").next().unwrap_or(named);
+    match read_planned(alloc, named)? {
+        Some(planned) => tell(alloc, name, &planned, wanted),
+        None => {
+            let told = format!(in alloc; "{name}: a line `store ..` names no loss")?;
+            Ok((Verdict::Faulty, told))
         }
-        None => tell(alloc, named, "", wanted),
     }
 }
 

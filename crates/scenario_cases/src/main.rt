@@ -16,14 +16,24 @@
 //! ```
 //!
 //! STATUS is `done`, or `scenario` where the text is no scenario and the line that says so is written.
+//!
+//! In front of the scenario a line `store STORE loses CALL before` has a store lose one of its calls, which
+//! are counted from 1, and one with `after` has it lose the call's answer once the call is made. STORE is a
+//! remote, or `local` for the local cluster's store. A compaction is not counted, and is never lost.
+//!
 //! For each case one line is written: `NAME: ok`, or the first line that differs, as it is wanted and
 //! as it came. The process ends with 0 where all are ok, with 1 where one is not, and with 2 where the
 //! input has a fault of form.
 //!
-//! `replayed` runs a scenario, and `case` reads a case and tells what came of it.
+//! The cases `ends/ACTION/END` have each action of a scenario with each way in which it can end.
+//!
+//! `losing` has stores that lose calls, `planned` reads a scenario with its losses, `replayed` runs it, and
+//! `case` reads a case and tells what came of it.
 #![tactic(auto)]
 
 mod case;
+mod losing;
+mod planned;
 mod replayed;
 
 use case::{Verdict, tell_case};

@@ -1,4 +1,6 @@
-use scenario_replay::{Status, fresh_stores, mesh_steps};
+use crate::losing::losing_stores;
+use crate::planned::Planned;
+use scenario_replay::{Status, mesh_steps};
 use std::alloc::Global;
 use store_api::{BytesSink, BytesSource, Memory};
 
@@ -16,12 +18,13 @@ fn status_word(status: Status) -> &'static str {
     }
 }
 
-/// How a replay of the text on fresh stores ends; what it writes is in the sink.
-fn replay(alloc: Global, text: &str, sink: &mut BytesSink) -> Result<Status, Memory> {
+/// How a replay of the scenario ends, on fresh stores that lose the planned calls; what it writes is in the
+/// sink.
+fn replay(alloc: Global, planned: &Planned, sink: &mut BytesSink) -> Result<Status, Memory> {
     let words = vec![in alloc; String::from_str(alloc, "step")?]?;
-    let bytes = Vec::from_slice(alloc, text.as_bytes())?;
+    let bytes = Vec::from_slice(alloc, planned.scenario.as_bytes())?;
     let mut source = BytesSource::new(bytes, Vec::new(alloc));
-    let mut stores = fresh_stores(alloc)?;
+    let mut stores = losing_stores(alloc, planned.losses.as_slice())?;
     Ok(mesh_steps(
         alloc,
         words.as_slice(),
@@ -31,10 +34,10 @@ fn replay(alloc: Global, text: &str, sink: &mut BytesSink) -> Result<Status, Mem
     ))
 }
 
-/// The status of a replay of the text on fresh stores as a line, and behind it what it writes.
-pub fn replayed(alloc: Global, text: &str) -> Result<String, Memory> {
+/// The status of a replay of the scenario as a line, and behind it what it writes.
+pub fn replayed(alloc: Global, planned: &Planned) -> Result<String, Memory> {
     let mut sink = BytesSink::new(alloc, ROOM, Vec::new(alloc))?;
-    let status = status_word(replay(alloc, text, &mut sink)?);
+    let status = status_word(replay(alloc, planned, &mut sink)?);
     let written = String::from_utf8_lossy(alloc, sink.bytes())?;
     Ok(format!(in alloc; "{status}\n{written}")?)
 }

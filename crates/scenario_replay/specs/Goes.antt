@@ -1,5 +1,6 @@
 -- That the calls on stores went the way that a world says.
 use Rattle.std.specs.Prelude.{◌≡◌, ℕ, ◌+◌, ◌≤◌, ◌==◌, List, [], ◌∷◌, ◌++◌, map, length, if◌then◌else◌, slice_index, true}
+use Rattle.store_api.specs.Contents.{empty_contents}
 use Rattle.store_api.specs.Meaning.{Meaning}
 use Rattle.scenario_replay.specs.World.{World}
 use Rattle.scenario_replay.specs.Asking.{Outcome, Made, LostBefore, LostAfter, Step, done}
@@ -8,6 +9,12 @@ use Rattle.scenario_replay.specs.Asking.{Outcome, Made, LostBefore, LostAfter, S
 pub record IsOpen (m : Meaning) : Type 0 where
   pub quiet : m.quiet ≡ true
   pub writable : (k : List ℕ) → m.writable k ≡ true
+
+-- nothing is held, no call failed, and none was made
+pub record IsFresh (m : Meaning) : Type 0 where
+  pub contents : m.contents ≡ empty_contents
+  pub faults : m.faults ≡ 0
+  pub calls : m.calls ≡ 0
 
 -- how often the place stands in the list
 abbrev pub occurrences : ℕ → List ℕ → ℕ

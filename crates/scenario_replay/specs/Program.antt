@@ -1,5 +1,5 @@
 -- What the program does with its words, its input, its output and the stores.
-use Rattle.std.specs.Prelude.{◌≡◌, ℕ, ◌-◌, ◌^◌, ◌<◌, List, [], ◌∷◌, ◌++◌, map, Option, Ok, Err, codes, Bool, true, false, bytes_eq}
+use Rattle.std.specs.Prelude.{◌≡◌, ℕ, ◌-◌, ◌^◌, ◌<◌, List, [], ◌∷◌, ◌++◌, map, Option, Ok, Err, codes, Bool, true, false, bytes_eq, ◌⊎◌, length, IfSome}
 use Rattle.std.specs.Fmt.{decimal}
 use Rattle.relist_merge.specs.Records.{IsRecord}
 use Rattle.store_api.specs.Advance.{turned}
@@ -8,7 +8,7 @@ use Rattle.store_api.specs.Followed.{Followed, in_at}
 use Rattle.store_api.specs.History.{History, revision}
 use Rattle.store_api.specs.Meaning.{Meaning}
 use Rattle.store_api.specs.Spans.{Record, cursor_of, is_caught_up}
-use Rattle.store_api.specs.Streams.{HoldsFront, HoldsMore}
+use Rattle.store_api.specs.Streams.{HoldsFront, HoldsMore, Took}
 use Rattle.scenario_lang.specs.Lines.{Said, scenario_of}
 use Rattle.scenario_lang.specs.declared.kinds.LineFault.{LineFault}
 use Rattle.scenario_lang.specs.declared.kinds.LineKind.{LineKind}
@@ -71,6 +71,10 @@ TurnsEndWhole = (f : Followed) (history : History) (compacted : ℕ) (r : Record
 abbrev pub is_step : List (List ℕ) → Bool
 is_step (word ∷ []) = bytes_eq word (codes "step")
 is_step _ = false
+
+-- The source was read to its end, or one byte more than an input may have was taken, and nothing behind it.
+abbrev pub TookEnough : Option (List ℕ) → Option (List ℕ) → Type 0
+TookEnough left rest = (taken : List ℕ) × Took left rest taken × (IfSome rest (λ bytes. bytes ≡ []) ⊎ (length taken ≡ 16777217))
 
 -- the words that the kinds of fault have
 abbrev pub kind_word : LineKind → List ℕ

@@ -1,13 +1,15 @@
 ghost use Rattle.std.specs.Prelude.{◌≡◌, length, map, All, IfOk};
-ghost use Rattle.scenario_replay.specs.Goes.{IsOpen};
+ghost use Rattle.scenario_replay.specs.Goes.{IsFresh, IsOpen};
 
 use memory_store::MemoryStore;
 use std::alloc::Global;
 use store_api::{Memory, Store};
 
-/// The local store and the stores of 255 remotes, all fresh.
+/// The local store and the stores of 255 remotes, all fresh: empty, with no call made or failed, written to
+/// by nobody else, and every key may be written.
 pub fn fresh_stores(alloc: Global) -> Result<Vec<MemoryStore>, Memory>
     ensures many { IfOk result (λ v. length v.items ≡ 256) }
+    ensures fresh { IfOk result (λ v. All IsFresh (map ⟦<MemoryStore as Store>⟧.meaning v.items)) }
     ensures open { IfOk result (λ v. All IsOpen (map ⟦<MemoryStore as Store>⟧.meaning v.items)) }
 {
     let mut stores = Vec::with_capacity(alloc, 256)?;

@@ -5,6 +5,7 @@ ghost use Rattle.scenario_lang.specs.Valid.{IsValid};
 ghost use Rattle.scenario_lang.specs.declared.kinds.LineFault.{LineFault};
 ghost use Rattle.scenario_lang.specs.declared.kinds.Mode.TheVariants as mode;
 ghost use Rattle.store_api.specs.Streams.{HasFailed};
+ghost use Rattle.scenario_replay.specs.Program.{TookEnough};
 
 use crate::streams::{ReadStop, read_all};
 use scenario_lang::{LineFault, LineKind, Mode, Scenario, read_scenario};
@@ -25,6 +26,7 @@ pub fn read_input<R: Source>(alloc: Global, source: &mut R) -> Result<Scenario, 
     ensures valid { IfOk result (IsValid mode.Step) }
     ensures ended { OnOk result (IfSome (R.left source.new) (λ rest. rest ≡ [])) }
     ensures refused { (fault : LineFault) → result ≡ Err (Unread.Refused fault) → IfSome (R.left source.old) (λ input. scenario_of mode.Step input ≡ Err fault) }
+    ensures heard { (fault : LineFault) → result ≡ Err (Unread.Refused fault) → TookEnough (R.left source.old) (R.left source.new) }
     ensures failed { result ≡ Err Unread.Failed → HasFailed (R.faults source.old) (R.faults source.new) }
 {
     let input = match read_all(alloc, source) {

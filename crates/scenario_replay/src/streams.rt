@@ -1,6 +1,7 @@
 // Reading an input to its end, and writing all of a text.
 ghost use Rattle.std.specs.Prelude.{◌≡◌, ◌≤◌, ◌<◌, ◌++◌, ◌^◌, ◌-◌, List, ℕ, [], length, drop, OnOk, OnErr, IfOk, IfSome, Some, None};
 ghost use Rattle.store_api.specs.Streams.{HoldsMore, HoldsFront, HasFailed};
+ghost use Rattle.scenario_replay.specs.Program.{TookEnough};
 
 use std::alloc::Global;
 use store_api::{Failed, Memory, Sink, Source};
@@ -22,6 +23,8 @@ pub fn read_all<R: Source>(alloc: Global, source: &mut R) -> Result<Vec<u8>, Rea
     ensures short { IfOk result (λ v. length v.items ≤ MOST_BYTES) }
     ensures ended { OnOk result (IfSome (R.left source.new) (λ rest. rest ≡ [])) }
     ensures too_long { result ≡ Err ReadStop.TooLong → IfSome (R.left source.old) (λ all. MOST_BYTES < length all) }
+    ensures enough { OnOk result (TookEnough (R.left source.old) (R.left source.new)) }
+    ensures one_too_many { result ≡ Err ReadStop.TooLong → TookEnough (R.left source.old) (R.left source.new) }
     ensures failed { result ≡ Err ReadStop.Failed → HasFailed (R.faults source.old) (R.faults source.new) }
     ensures count { R.faults source.old ≤ R.faults source.new }
 {

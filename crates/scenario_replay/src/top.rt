@@ -4,9 +4,9 @@ ghost use Rattle.scenario_lang.specs.Lines.{scenario_of};
 ghost use Rattle.scenario_lang.specs.Valid.{IsValid};
 ghost use Rattle.scenario_lang.specs.declared.kinds.LineKind.{LineKind};
 ghost use Rattle.scenario_lang.specs.declared.kinds.Mode.TheVariants as mode;
-ghost use Rattle.store_api.specs.Streams.{HasFailed, HoldsMore};
+ghost use Rattle.store_api.specs.Streams.{HasFailed, HoldsFront, HoldsMore};
 ghost use Rattle.scenario_replay.specs.Goes.{IsOpen};
-ghost use Rattle.scenario_replay.specs.Program.{NoneFailed, Ran, RanPlainly, Reports, TurnsEndWhole, WroteSome, is_step, refusal_line, usage_line};
+ghost use Rattle.scenario_replay.specs.Program.{NoneFailed, Ran, RanPlainly, Reports, TookEnough, TurnsEndWhole, WroteSome, is_step, refusal_line, usage_line};
 
 use crate::input::{Unread, read_input};
 use crate::laws::turns_end_whole;
@@ -72,13 +72,20 @@ pub fn mesh_steps<R: Source, W: Sink, S: StoreAdmin>(
     // where the store is synced.
     ensures whole_turns { TurnsEndWhole }
 
-    // Other words than `step` are answered by the usage line.
+    // Other words than `step` are answered by the usage line, or by a front of it; nothing of the source is
+    // read then, and every store is as it was.
     ensures usage { result ≡ Status.Usage → (is_step (map string_bytes words.now) ≡ false) × HoldsMore (W.holds sink.old) (W.holds sink.new) usage_line }
     ensures served { is_step (map string_bytes words.now) ≡ false → (result ≡ Status.Usage) ⊎ (result ≡ Status.WriteFault) }
+    ensures usage_front { is_step (map string_bytes words.now) ≡ false → result ≡ Status.WriteFault → HoldsFront (W.holds sink.old) (W.holds sink.new) usage_line }
+    ensures unasked { is_step (map string_bytes words.now) ≡ false → source.new ≡ source.old }
+    ensures unserved { is_step (map string_bytes words.now) ≡ false → stores.new ≡ stores.old }
 
     // An input that is no scenario is answered by its first fault.
     ensures refused { (line : ℕ) (why : LineKind) → result ≡ Status.Scenario line why
         → IfSome (R.left source.old) (λ input. scenario_of mode.Step input ≡ Err (record { line = line; kind = why })) × HoldsMore (W.holds sink.old) (W.holds sink.new) (refusal_line (record { line = line; kind = why })) }
+
+    // The first fault is told when the input was read to its end, or one byte more than it may have was taken.
+    ensures heard { (line : ℕ) (why : LineKind) → result ≡ Status.Scenario line why → TookEnough (R.left source.old) (R.left source.new) }
 
     // A fault is told only where the outside failed. After a write fault a front of what was to be written
     // is written.

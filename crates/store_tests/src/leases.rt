@@ -15,6 +15,7 @@ impl Table {
         let leases = &self.leases;
         match call {
             "now" => Ok(leases.now().to_string(alloc)?),
+            "deadline" => Ok(format!(in alloc; "{:?}", leases.deadline(number))?),
             "is_live" => Ok(leases.is_live(number).to_string(alloc)?),
             "has_due" => Ok(leases.has_due().to_string(alloc)?),
             "has_due_after" => Ok(leases.has_due_after(number).to_string(alloc)?),
@@ -111,7 +112,10 @@ fn due_leases_are_told_beforehand_and_end_at_an_expiry(rt: HostRuntime) -> Resul
 const RENEWED: &str = "\
 grant 10 => 1
 advance 4 => done
+deadline 1 => Some(10)
+deadline 2 => None
 renew 1 => Some(14)
+deadline 1 => Some(14)
 advance 9 => done
 has_due => false
 advance 1 => done

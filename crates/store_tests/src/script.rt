@@ -10,7 +10,7 @@ use mesh_base::{Bytes, Items, Memory};
 use std::alloc::{AllocError, Global};
 use std::cmp::Ordering;
 use store_api::{
-    Batch, Change, Listing, MAX_OPS, Op, Range, Ranges, Store, StoreAdmin, StoreFault,
+    Batch, Change, Listing, MAX_OPS, Op, Range, Ranges, Revision, Store, StoreAdmin, StoreFault,
 };
 
 /// The word, and what stands behind it.
@@ -138,11 +138,22 @@ fn push_change(alloc: Global, told: &mut String, change: &Change) -> Result<(), 
     Ok(())
 }
 
-/// Each revision's number with the keys that it put and deleted, and then how far the batch goes.
+// The revision's number, and behind it its writer where this is not 0.
+fn push_number(alloc: Global, told: &mut String, revision: &Revision) -> Result<(), Memory> {
+    told.push_str(revision.number.to_string(alloc)?.as_str())?;
+    if revision.writer != 0 {
+        told.push_str(":")?;
+        told.push_str(revision.writer.to_string(alloc)?.as_str())?;
+    }
+    Ok(())
+}
+
+/// Each revision's number (`NUMBER:WRITER` where the writer is not 0) with the keys that it put and
+/// deleted, and then how far the batch goes.
 fn pulled(alloc: Global, batch: &Batch) -> Result<String, Memory> {
     let mut told = String::new(alloc);
     for revision in batch.revisions.as_slice() {
-        told.push_str(revision.number.to_string(alloc)?.as_str())?;
+        push_number(alloc, &mut told, revision)?;
         for change in revision.changes.as_slice() {
             push_change(alloc, &mut told, change)?;
         }

@@ -17,12 +17,18 @@ struct Stored {
     store: MemoryStore,
 }
 
-// Each word puts a key, in a revision of its own.
-const JOURNAL: &str = "cilium/cluster-config/east={\"id\":1} \
-    cilium/state/nodes/v1/east/n7={\"Name\":\"n7\",\"Cluster\":\"east\",\"ClusterID\":1}";
+// Each word puts a key, in a revision of its own, by the writer before the colon.
+const JOURNAL: &str = "7:cilium/cluster-config/east={\"id\":1} \
+    8:cilium/state/nodes/v1/east/n7={\"Name\":\"n7\",\"Cluster\":\"east\",\"ClusterID\":1}";
 
-// A revision of this number that puts the key.
-fn putting(alloc: Global, number: u64, key: &str, value: &str) -> Result<Revision, Memory>
+// A revision of this number, by this writer, that puts the key.
+fn putting(
+    alloc: Global,
+    number: u64,
+    writer: u32,
+    key: &str,
+    value: &str,
+) -> Result<Revision, Memory>
     ensures number { IfOk result (λ r. r.number ≡ number) }
     ensures changes { IfOk result (λ r. r.changes ≡ Put key.now value.now None ∷ []) }
 {
@@ -34,7 +40,7 @@ fn putting(alloc: Global, number: u64, key: &str, value: &str) -> Result<Revisio
     })?;
     Ok(Revision {
         number,
-        writer: 7,
+        writer,
         changes,
     })
 }
@@ -44,9 +50,11 @@ fn journal(alloc: Global, words: &str) -> Result<Vec<Revision>, Memory>
 {
     let mut journal = Vec::new(alloc);
     for word in words.split(" ") {
+        let (writer, word) = word.split_once(":").unwrap_or(("", word));
         let (key, value) = word.split_once("=").unwrap_or((word, ""));
         let number = journal.len() as u64 + 2;
-        journal.push(putting(alloc, number, key, value)?)?;
+        let writer = writer.parse().unwrap_or(0);
+        journal.push(putting(alloc, number, writer, key, value)?)?;
     }
     Ok(journal)
 }
@@ -214,7 +222,7 @@ commit y=1@3 => 3
 commit x=1@1 => 4
 commit w=1@2 => 5
 tick_as 7 30 => 8
-pull 6 9 => 6-w-z 7-y 8-x 8
+pull 6 9 => 6:7-w-z 7:7-y 8:7-x 8
 ";
 
 #[test]
@@ -332,6 +340,47 @@ fn a_pull_from_the_compacted_revision_is_refused(rt: HostRuntime) -> Result<(), 
     each_line_of_a_store_holds(rt.alloc(), COMPACTED)
 }
 
+const WRITTEN: &str = "\
+commit_as 7 a=1 => 2
+commit b=1 => 3
+grant 5 => 1
+commit_as 8 c=1@1 => 4
+tick_as 9 5 => 5
+pull 2 9 => 2:7+a 3+b 4:8+c 5:9-c 5
+grant 1 => 2
+tick_as 9 1 => 5
+commit_as 7 -a => 6
+pull 6 9 => 6:7-a 6
+";
+
+#[test]
+fn a_pull_names_who_wrote_each_revision(rt: HostRuntime) -> Result<(), Wrong> {
+    each_line_of_a_store_holds(rt.alloc(), WRITTEN)
+}
+
+const WITHOUT_EFFECT: &str = "\
+grant 10 => 1
+commit a=1@1 => 2
+keep 1 => done
+tick 4 => 2
+keep 1 => done
+keep 1 => done
+compact 1 => 1
+compact 1 => 1
+compact 0 => 1
+tick 9 => 2
+list => at 2 a
+pull 2 9 => 2+a 2
+tick 1 => 3
+list => at 3
+pull 2 9 => 2+a 3-a 3
+";
+
+#[test]
+fn a_call_without_effect_is_answered_and_changes_nothing(rt: HostRuntime) -> Result<(), Wrong> {
+    each_line_of_a_store_holds(rt.alloc(), WITHOUT_EFFECT)
+}
+
 const JOURNAL_LISTED: &str = "\
 journal 0 => done
 list => at 3 cilium/cluster-config/east cilium/state/nodes/v1/east/n7
@@ -344,11 +393,11 @@ fn a_store_lists_what_its_journal_left(rt: HostRuntime) -> Result<(), Wrong> {
 
 const JOURNAL_PULLED: &str = "\
 journal 0 => done
-pull 1 9 => 2+cilium/cluster-config/east 3+cilium/state/nodes/v1/east/n7 3
+pull 1 9 => 2:7+cilium/cluster-config/east 3:8+cilium/state/nodes/v1/east/n7 3
 ";
 
 #[test]
-fn a_journal_is_pulled_as_the_history(rt: HostRuntime) -> Result<(), Wrong> {
+fn a_journal_is_pulled_as_the_history_with_its_writers(rt: HostRuntime) -> Result<(), Wrong> {
     each_line_of_a_store_holds(rt.alloc(), JOURNAL_PULLED)
 }
 
@@ -366,7 +415,7 @@ fn a_commit_after_a_journal_has_the_next_number(rt: HostRuntime) -> Result<(), W
 const JOURNAL_COMPACTED: &str = "\
 journal 2 => done
 pull 2 9 => Compacted { compacted: 2 }
-pull 3 9 => 3+cilium/state/nodes/v1/east/n7 3
+pull 3 9 => 3:8+cilium/state/nodes/v1/east/n7 3
 ";
 
 #[test]

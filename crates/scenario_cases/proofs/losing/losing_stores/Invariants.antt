@@ -1,5 +1,5 @@
 use Rattle.std.proofs.Common.{◌≡◌, length}
-use Rattle.replay_tests.proofs.replays.linked.fresh_linked_stores.Given as goal
+use Rattle.scenario_cases.proofs.losing.losing_stores.Given as goal
 
 abbrev pub invariant-loop-place : goal.invariant-loop-place
 invariant-loop-place l = record {

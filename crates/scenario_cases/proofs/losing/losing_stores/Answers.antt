@@ -1,7 +1,7 @@
 use Rattle.std.proofs.Common.{refl}
 use Rattle.std.proofs.lemmas.List.Elements.{All-map}
 use Rattle.scenario_replay.specs.Goes.{IsOpen}
-use Rattle.replay_tests.proofs.replays.linked.fresh_linked_stores.Goals as goal
+use Rattle.scenario_cases.proofs.losing.losing_stores.Goals as goal
 
 pub returns-clause-open : goal.returns-clause-open
 returns-clause-open c = All-map IsOpen _ c.loop-place.stores.items (λ k d lt. record { quiet = refl; writable = λ key. refl })
