@@ -27,22 +27,12 @@ pub struct Loss {
     pub when: When,
 }
 
-/// The calls that a store is to lose, and how it stands with them.
+/// The calls that a store is still to lose, and how many it was asked and has lost.
 #[derive(Drop)]
 struct Losses {
     plan: Vec<Loss>,
-    /// How many calls were made, lost ones too.
     calls: u64,
     lost: Count,
-}
-
-fn loss_of(plan: &[Loss], call: u64) -> Option<When> {
-    for loss in plan {
-        if loss.call == call {
-            return Some(loss.when);
-        }
-    }
-    None
 }
 
 impl Losses {
@@ -51,11 +41,10 @@ impl Losses {
         ensures { self.new.lost ≡ self.old.lost + (if is_some result then 1 else 0) }
     {
         self.calls = self.calls.saturating_add(1);
-        let loss = loss_of(self.plan.as_slice(), self.calls);
-        if loss.is_some() {
-            self.lost.raise();
-        }
-        loss
+        let call = self.calls;
+        let at = self.plan.iter().position(|loss| loss.call == call)?;
+        self.lost.raise();
+        Some(self.plan.remove(at).when)
     }
 }
 
@@ -76,6 +65,11 @@ impl LosingStore {
             },
             inner: MemoryStore::new(alloc),
         }
+    }
+
+    /// Whether it has lost every call that it was to lose.
+    pub fn is_done(&self) -> bool {
+        self.losses.plan.is_empty()
     }
 }
 

@@ -19,7 +19,8 @@
 //!
 //! In front of the scenario a line `store STORE loses CALL before` has a store lose one of its calls, which
 //! are counted from 1, and one with `after` has it lose the call's answer once the call is made. STORE is a
-//! remote, or `local` for the local cluster's store. A compaction is not counted, and is never lost.
+//! remote, or `local` for the local cluster's store. A compaction is not counted, and is never lost. A loss
+//! that does not come is told.
 //!
 //! For each case one line is written: `NAME: ok`, or the first line that differs, as it is wanted and
 //! as it came. The process ends with 0 where all are ok, with 1 where one is not, and with 2 where the
