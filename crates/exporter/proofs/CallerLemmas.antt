@@ -1,13 +1,13 @@
 -- What the crates above may cite of the calls that an exporter made.
 use Rattle.std.proofs.Common.{◌≡◌, ◌≢◌, ℕ, zero, suc, List, [], ◌∷◌, ◌++◌, false, Option, None, Some, is_some, refl, sym, ap, subst, ◌∙◌, ◌⊎◌, inl, inr}
 use Rattle.store_api.specs.Contents.{dead_lease}
-use Rattle.store_api.specs.Crossing.{Request, Ending, Answers, WantsMemory, to_commit}
+use Rattle.store_api.specs.Calls.{Request, Ending, Answers, WantsMemory, to_commit}
 use Rattle.store_api.specs.Meaning.{Meaning, Keeps}
 use Rattle.exporter.specs.Calls.{Writes, WritesAll}
 use Rattle.exporter.specs.Crossed.{Crosses, CrossesOnce, CrossesAll, CrossesUpTo, commits, ended_by}
 use Rattle.exporter.specs.State.{Export, next_ops, after_item, after_items}
 use Rattle.exporter.specs.declared.fault.ExportFault.{ExportFault}
-use Rattle.exporter.proofs.Steps.{keeps_all, keeps_both}
+use Rattle.store_api.proofs.Calls.{keeps_none, keeps_both}
 
 -- the commits of one item more
 pub commits_more : (n : ℕ) (s : Export) → commits n s ++ (to_commit (next_ops (after_items n s)), Answers) ∷ [] ≡ commits (suc n) s
@@ -59,7 +59,7 @@ module _ {V : Type 0} (meaning : V → Meaning) (crossed : V → V → Request �
 
   -- what all calls keep
   pub crosses_keep : (calls : List (Request × Ending)) (old new : V) → CrossesAll meaning crossed calls old new → Keeps (meaning old) (meaning new)
-  crosses_keep [] old new all = subst (λ (v : V). Keeps (meaning old) (meaning v)) (sym all) (keeps_all (meaning old))
+  crosses_keep [] old new all = subst (λ (v : V). Keeps (meaning old) (meaning v)) (sym all) (keeps_none (meaning old))
   crosses_keep ((request, end) ∷ calls) old new all = keeps_both (meaning old) (meaning all.0) (meaning new) all.1.keeps (crosses_keep calls all.0 new all.2)
 
   -- commits that were answered wrote their items

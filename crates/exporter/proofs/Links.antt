@@ -2,7 +2,7 @@
 -- and of what the store behind it means.
 use Rattle.std.proofs.Common.{◌≡◌, List, [], ◌∷◌, true, false, cond, refl, ap, ◌∙◌, ◌⊎◌, inl, inr, arith}
 use Rattle.store_api.specs.Contents.{Contents}
-use Rattle.store_api.specs.Crossing.{Request, Ending, Answers, Refuses, WantsMemory, IsLost}
+use Rattle.store_api.specs.Calls.{Request, Ending, Answers, Refuses, WantsMemory, IsLost, in_turn}
 use Rattle.store_api.specs.Meaning.{Meaning, Keeps, Makes, MayMake, Counts}
 use Rattle.flaky_link.specs.Crossed.{Crossed, CrossedBy, MadeBehind}
 use Rattle.flaky_link.specs.Link.{Link, after_call, fate, failed, is_worn, linked, passed}
@@ -46,13 +46,13 @@ may_make_behind l l' m m' effect same x = record {
 }
 
 keeps_behind : (l l' : Link) (m m' : Meaning) → l'.faults ≡ l.faults → Keeps (linked l m) (linked l' m') → Keeps m m'
-keeps_behind l l' m m' same k = record { history = k.history; faults = omega (arith, same, k.faults); quiet = k.quiet; writable = k.writable }
+keeps_behind l l' m m' same k = record { history = k.history; faults = omega (arith, same, k.faults); quiet = k.quiet; numbers = k.numbers; writable = k.writable }
 
 does_behind : (request : Request) (end : Ending) (l l' : Link) (m m' : Meaning) → l'.faults ≡ l.faults → Does request end (linked l m) (linked l' m') → Does request end m m'
-does_behind request Answers l l' m m' same d = (d.0, makes_behind l l' m m' request.effect d.1)
+does_behind request Answers l l' m m' same d = (d.0, makes_behind l l' m m' (in_turn request) d.1)
 does_behind request Refuses l l' m m' same d = (d.0, makes_behind l l' m m' (λ c. c) d.1)
 does_behind request WantsMemory l l' m m' same d = makes_behind l l' m m' (λ c. c) d
-does_behind request IsLost l l' m m' same d = may_make_behind l l' m m' request.effect same d
+does_behind request IsLost l l' m m' same d = may_make_behind l l' m m' (in_turn request) same d
 
 came_by : (f : Fate) (request : Request) (end : Ending) (l l' : Link) (m m' : Meaning) → CrossedBy f l l' m m' request end → Does request end (linked l m) (linked l' m') → Keeps (linked l m) (linked l' m') → Came f request end l l' m m'
 came_by Passes request end l l' m m' crossed does keeps =

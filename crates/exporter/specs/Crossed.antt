@@ -3,7 +3,7 @@
 -- The form is this project's own.
 use Rattle.std.specs.Prelude.{◌≡◌, ◌⊎◌, ◌<◌, ℕ, zero, suc, List, [], ◌∷◌, true, false, Result, Ok, Err}
 use Rattle.store_api.specs.Contents.{unchanged}
-use Rattle.store_api.specs.Crossing.{Request, Ending, Answers, Refuses, WantsMemory, IsLost, to_commit}
+use Rattle.store_api.specs.Calls.{Request, Ending, Answers, Refuses, WantsMemory, IsLost, in_turn, to_commit}
 use Rattle.store_api.specs.Meaning.{Meaning, Keeps, Makes, MayMake}
 use Rattle.exporter.specs.Calls as of
 use Rattle.exporter.specs.State.{Export, next_ops, after_item, after_items, turns}
@@ -23,10 +23,10 @@ ended (Err fault) = ended_by fault
 
 -- what a call that ended so did to the store
 abbrev pub Does : Request → Ending → Meaning → Meaning → Type 0
-Does request Answers old new = (request.is_refused new.contents ≡ false) × Makes old new request.effect
+Does request Answers old new = (request.is_refused new.contents ≡ false) × Makes old new (in_turn request)
 Does request Refuses old new = (request.is_refused new.contents ≡ true) × Makes old new unchanged
 Does request WantsMemory old new = Makes old new unchanged
-Does request IsLost old new = MayMake old new request.effect
+Does request IsLost old new = MayMake old new (in_turn request)
 
 -- a call and its end, from one store to the next: how it crossed what lies between, and what it did
 pub record Crosses {V : Type 0} (meaning : V → Meaning) (between : V → V → Request → Ending → Type 0) (request : Request) (end : Ending) (old new : V) : Type 0 where

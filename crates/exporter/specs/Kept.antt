@@ -9,7 +9,8 @@ use Rattle.mesh_text.specs.declared.kind.Kind.TheVariants.{Nodes, Services, Iden
 use Rattle.store_api.specs.History.{Pairing}
 use Rattle.exporter.specs.declared.item.Item.{Item}
 use Rattle.exporter.specs.declared.item.Item.TheVariants as item
-use Rattle.exporter.specs.State.{Export, is_record, place}
+use Rattle.mesh_text.specs.Kinds.{place}
+use Rattle.exporter.specs.State.{Export, is_record}
 
 -- how often the record's key waits
 abbrev pub times : List ℕ → List Item → ℕ

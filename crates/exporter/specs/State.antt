@@ -7,7 +7,7 @@ use Rattle.std.specs.FinMap.{get, contains_key, insert, remove, empty, keys}
 use Rattle.std.specs.List.{list_any, list_all}
 use Rattle.mesh_base.specs.Order.{same_bytes}
 use Rattle.mesh_text.specs.declared.kind.Kind.{Kind}
-use Rattle.mesh_text.specs.declared.kind.Kind.TheVariants.{Nodes, Services, Identities, Addresses}
+use Rattle.mesh_text.specs.Kinds.{place}
 use Rattle.store_api.specs.History.{Pairing, in_ranges}
 use Rattle.store_api.specs.declared.change.Op.{Op}
 use Rattle.store_api.specs.declared.change.Op.TheVariants as op
@@ -50,13 +50,6 @@ new_export cluster number seconds = record {
   lease = None;
   marked = unmarked;
 }
-
--- the place of a kind in their order
-abbrev pub place : Kind → ℕ
-place Nodes = 0
-place Services = 1
-place Identities = 2
-place Addresses = 3
 
 abbrev pub is_record : List ℕ → Item → Bool
 is_record key item.Config = false

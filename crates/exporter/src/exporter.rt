@@ -8,7 +8,7 @@ ghost use Rattle.record_check.specs.Reading.{IsOfKind};
 ghost use Rattle.key_paths.specs.declared.hop.Hop.TheVariants.{State};
 ghost use Rattle.store_api.specs.History.{in_ranges};
 ghost use Rattle.store_api.specs.Contents.{after_grant};
-ghost use Rattle.store_api.specs.Crossing.{to_commit, to_grant, to_keep_alive};
+ghost use Rattle.store_api.specs.Calls.{to_commit, to_grant, to_keep_alive};
 ghost use Rattle.store_api.specs.Meaning.{Keeps, Makes};
 ghost use Rattle.exporter.specs.State.{IsExport, IsExported, after_declare, after_item, after_items, after_start, after_stop, after_withdraw, is_record, is_synced, new_export, next_ops, op_of, record_op, turns, waiting};
 ghost use Rattle.exporter.specs.Calls.{KeepsLease, Refuses, RefusesKeep, RefusesStart, StopsAt, Writes, WritesAll};

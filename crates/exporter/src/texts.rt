@@ -1,7 +1,8 @@
 // The keys and values of what is exported beside the records.
 ghost use Rattle.std.specs.Prelude.{◌≡◌, ◌^◌, ◌<◌, IfOk, length};
 ghost use Rattle.key_paths.specs.Paths as paths;
-ghost use Rattle.exporter.specs.State.{config_value, place};
+ghost use Rattle.mesh_text.specs.Kinds.{place};
+ghost use Rattle.exporter.specs.State.{config_value};
 
 use mesh_base::{Bytes, Memory};
 use mesh_records::write_config;

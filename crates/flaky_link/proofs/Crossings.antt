@@ -1,7 +1,7 @@
 -- What comes of a call on a link says how it crossed the link.
 use Rattle.std.proofs.Common.{◌≡◌, ℕ, not, List, false, is_some, Ok, Err, refl, ap, arith, inl, inr}
 use Rattle.std.proofs.lemmas.Bool.{le-leb, lt-leb}
-use Rattle.store_api.specs.Crossing.{Request, ending_of, to_commit, to_grant, to_keep_alive, to_list, to_pull}
+use Rattle.store_api.specs.Calls.{Request, ending_of, to_commit, to_grant, to_keep_alive, to_list, to_pull}
 use Rattle.store_api.specs.Meaning.{Meaning}
 use Rattle.store_api.specs.declared.change.Batch.{Batch}
 use Rattle.store_api.specs.declared.change.Listing.{Listing}

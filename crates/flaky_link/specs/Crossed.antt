@@ -2,7 +2,7 @@
 -- The form is this project's own.
 use Rattle.std.specs.Prelude.{◌≡◌, ◌⊎◌, true, false}
 use Rattle.store_api.specs.Contents.{unchanged}
-use Rattle.store_api.specs.Crossing.{Request, Ending, IsLost, WantsMemory}
+use Rattle.store_api.specs.Calls.{Request, Ending, IsLost, WantsMemory, in_turn}
 use Rattle.store_api.specs.Meaning.{Meaning, Keeps, Makes, MayMake}
 use Rattle.flaky_link.specs.Link.{Link, fate, failed, passed}
 use Rattle.flaky_link.specs.declared.state.Fate.{Fate}
@@ -10,7 +10,7 @@ use Rattle.flaky_link.specs.declared.state.Fate.TheVariants.{Passes, FailsBefore
 
 -- the store made the call: with its effect, unless it refused it or lost it itself
 abbrev pub MadeBehind : Meaning → Meaning → Request → Type 0
-MadeBehind before after request = Keeps before after × (((request.is_refused after.contents ≡ false) × Makes before after request.effect) ⊎ (((request.is_refused after.contents ≡ true) × Makes before after unchanged) ⊎ MayMake before after request.effect))
+MadeBehind before after request = Keeps before after × (((request.is_refused after.contents ≡ false) × Makes before after (in_turn request)) ⊎ (((request.is_refused after.contents ≡ true) × Makes before after unchanged) ⊎ MayMake before after (in_turn request)))
 
 abbrev pub CrossedBy : Fate → Link → Link → Meaning → Meaning → Request → Ending → Type 0
 CrossedBy Passes old new before after request end = new ≡ passed old

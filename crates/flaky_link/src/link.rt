@@ -6,7 +6,7 @@ ghost use Rattle.store_api.specs.declared.change.Batch as batch;
 ghost use Rattle.store_api.specs.declared.change.Listing as listing;
 ghost use Rattle.flaky_link.specs.Answers.{IsCommit, IsGrant, IsKeepAlive, IsList, IsPull};
 ghost use Rattle.flaky_link.specs.Crossed.{Crossed};
-ghost use Rattle.store_api.specs.Crossing.{ending_of, to_commit, to_grant, to_keep_alive, to_list, to_pull};
+ghost use Rattle.store_api.specs.Calls.{Called, ending_of, to_commit, to_grant, to_keep_alive, to_list, to_pull};
 ghost use Rattle.flaky_link.specs.Link.{linked, loans_of};
 ghost use Rattle.flaky_link.specs.Through.{Through};
 
@@ -51,7 +51,8 @@ impl<S: Store> Store for FlakyLink<'_, S> {
 
     fn list(&mut self, alloc: Global, ranges: &Ranges) -> Result<Listing, StoreFault>
         ensures through { Through listing.Listing (IsList ranges.now.items) self.old.state.now self.new.state.now (S.meaning self.old.store.now) (S.meaning self.new.store.now) result }
-        ensures call { IsList ranges.now.items (linked self.old.state.now (S.meaning self.old.store.now)) (linked self.new.state.now (S.meaning self.new.store.now)) result }
+        ensures answers { IsList ranges.now.items (linked self.old.state.now (S.meaning self.old.store.now)) (linked self.new.state.now (S.meaning self.new.store.now)) result }
+        ensures call { Called to_list (ending_of listing.Listing result) (linked self.old.state.now (S.meaning self.old.store.now)) (linked self.new.state.now (S.meaning self.new.store.now)) }
         ensures crossed { Crossed self.old.state.now self.new.state.now (S.meaning self.old.store.now) (S.meaning self.new.store.now) to_list (ending_of listing.Listing result) }
         ensures named { S.name self.new.store.now ≡ S.name self.old.store.now }
         ensures loans { loans_of self.new.state.ghost_name self.new.store.ghost_name (S.loans self.new.store.now) ≡ loans_of self.old.state.ghost_name self.old.store.ghost_name (S.loans self.old.store.now) }
@@ -72,7 +73,8 @@ impl<S: Store> Store for FlakyLink<'_, S> {
     ) -> Result<Batch, StoreFault>
         requires { 1 ≤ from }
         ensures through { Through batch.Batch (IsPull ranges.now.items from most) self.old.state.now self.new.state.now (S.meaning self.old.store.now) (S.meaning self.new.store.now) result }
-        ensures call { IsPull ranges.now.items from most (linked self.old.state.now (S.meaning self.old.store.now)) (linked self.new.state.now (S.meaning self.new.store.now)) result }
+        ensures answers { IsPull ranges.now.items from most (linked self.old.state.now (S.meaning self.old.store.now)) (linked self.new.state.now (S.meaning self.new.store.now)) result }
+        ensures call { Called (to_pull from) (ending_of batch.Batch result) (linked self.old.state.now (S.meaning self.old.store.now)) (linked self.new.state.now (S.meaning self.new.store.now)) }
         ensures crossed { Crossed self.old.state.now self.new.state.now (S.meaning self.old.store.now) (S.meaning self.new.store.now) (to_pull from) (ending_of batch.Batch result) }
         ensures named { S.name self.new.store.now ≡ S.name self.old.store.now }
         ensures loans { loans_of self.new.state.ghost_name self.new.store.ghost_name (S.loans self.new.store.now) ≡ loans_of self.old.state.ghost_name self.old.store.ghost_name (S.loans self.old.store.now) }
@@ -89,7 +91,8 @@ impl<S: Store> Store for FlakyLink<'_, S> {
         requires distinct { IsDistinct same_bytes (map key_of ops.now) }
         requires writable { All (λ op. IsTrue ((S.meaning self.old.store.now).writable (key_of op))) ops.now }
         ensures through { Through ℕ (IsCommit ops.now) self.old.state.now self.new.state.now (S.meaning self.old.store.now) (S.meaning self.new.store.now) result }
-        ensures call { IsCommit ops.now (linked self.old.state.now (S.meaning self.old.store.now)) (linked self.new.state.now (S.meaning self.new.store.now)) result }
+        ensures answers { IsCommit ops.now (linked self.old.state.now (S.meaning self.old.store.now)) (linked self.new.state.now (S.meaning self.new.store.now)) result }
+        ensures call { Called (to_commit ops.now) (ending_of ℕ result) (linked self.old.state.now (S.meaning self.old.store.now)) (linked self.new.state.now (S.meaning self.new.store.now)) }
         ensures crossed { Crossed self.old.state.now self.new.state.now (S.meaning self.old.store.now) (S.meaning self.new.store.now) (to_commit ops.now) (ending_of ℕ result) }
         ensures named { S.name self.new.store.now ≡ S.name self.old.store.now }
         ensures loans { loans_of self.new.state.ghost_name self.new.store.ghost_name (S.loans self.new.store.now) ≡ loans_of self.old.state.ghost_name self.old.store.ghost_name (S.loans self.old.store.now) }
@@ -104,7 +107,8 @@ impl<S: Store> Store for FlakyLink<'_, S> {
     fn grant(&mut self, alloc: Global, seconds: u64) -> Result<u64, StoreFault>
         requires { 1 ≤ seconds }
         ensures through { Through ℕ (IsGrant seconds) self.old.state.now self.new.state.now (S.meaning self.old.store.now) (S.meaning self.new.store.now) result }
-        ensures call { IsGrant seconds (linked self.old.state.now (S.meaning self.old.store.now)) (linked self.new.state.now (S.meaning self.new.store.now)) result }
+        ensures answers { IsGrant seconds (linked self.old.state.now (S.meaning self.old.store.now)) (linked self.new.state.now (S.meaning self.new.store.now)) result }
+        ensures call { Called (to_grant seconds) (ending_of ℕ result) (linked self.old.state.now (S.meaning self.old.store.now)) (linked self.new.state.now (S.meaning self.new.store.now)) }
         ensures crossed { Crossed self.old.state.now self.new.state.now (S.meaning self.old.store.now) (S.meaning self.new.store.now) (to_grant seconds) (ending_of ℕ result) }
         ensures named { S.name self.new.store.now ≡ S.name self.old.store.now }
         ensures loans { loans_of self.new.state.ghost_name self.new.store.ghost_name (S.loans self.new.store.now) ≡ loans_of self.old.state.ghost_name self.old.store.ghost_name (S.loans self.old.store.now) }
@@ -118,7 +122,8 @@ impl<S: Store> Store for FlakyLink<'_, S> {
 
     fn keep_alive(&mut self, lease: u64) -> Result<(), StoreFault>
         ensures through { Through (Unit {0}) (IsKeepAlive lease) self.old.state.now self.new.state.now (S.meaning self.old.store.now) (S.meaning self.new.store.now) result }
-        ensures call { IsKeepAlive lease (linked self.old.state.now (S.meaning self.old.store.now)) (linked self.new.state.now (S.meaning self.new.store.now)) result }
+        ensures answers { IsKeepAlive lease (linked self.old.state.now (S.meaning self.old.store.now)) (linked self.new.state.now (S.meaning self.new.store.now)) result }
+        ensures call { Called (to_keep_alive lease) (ending_of (Unit {0}) result) (linked self.old.state.now (S.meaning self.old.store.now)) (linked self.new.state.now (S.meaning self.new.store.now)) }
         ensures crossed { Crossed self.old.state.now self.new.state.now (S.meaning self.old.store.now) (S.meaning self.new.store.now) (to_keep_alive lease) (ending_of (Unit {0}) result) }
         ensures named { S.name self.new.store.now ≡ S.name self.old.store.now }
         ensures loans { loans_of self.new.state.ghost_name self.new.store.ghost_name (S.loans self.new.store.now) ≡ loans_of self.old.state.ghost_name self.old.store.ghost_name (S.loans self.old.store.now) }

@@ -30,7 +30,7 @@ contents_logged log writer ops = contents_with log writer _
 
 -- ---- the meaning
 -- alone, a call finds what was there
-found_same : (s : Stored) → Finds (meaning_of s) (contents_of s.log)
+pub found_same : (s : Stored) → Finds (meaning_of s) (contents_of s.log)
 found_same s = record { later = ([], sym (append-nil (history_of s.log))); compacted = omega arith; alone = λ _. refl }
 
 pub makes : (old new : Stored) (effect : Contents → Contents) → contents_of new.log ≡ effect (contents_of old.log) → new.calls ≡ old.calls + 1 → Makes (meaning_of old) (meaning_of new) effect
@@ -45,7 +45,7 @@ pub commit_makes : (old new : Stored) (writer : ℕ) (ops : List Op) → new.log
 commit_makes old new writer ops log calls = makes old new (after_commit ops) (ap contents_of log ∙ contents_logged old.log writer ops) calls
 
 -- ---- a tick
-with_begins : (h : History) (changes : List Change) → Begins h (with_revision h changes)
+pub with_begins : (h : History) (changes : List Change) → Begins h (with_revision h changes)
 with_begins h [] = ([], sym (append-nil h))
 with_begins h (c ∷ changes) = ((c ∷ changes) ∷ [], refl)
 
@@ -57,7 +57,7 @@ lapsed_begins h (lease ∷ leases) =
     (first.0 ++ rest.0, rest.1 ∙ ap (λ (l : History). l ++ rest.0) first.1 ∙ append_assoc h first.0 rest.0)
 
 same_history : (old new : Stored) → Begins (history_of old.log) (history_of new.log) → Keeps (meaning_of old) (meaning_of new)
-same_history old new begins = record { history = begins; faults = omega arith; quiet = refl; writable = λ k. refl }
+same_history old new begins = record { history = begins; faults = omega arith; quiet = refl; numbers = refl; writable = λ k. refl }
 
 pub tick_keeps : {T E : Type 0} (r : Result T E) (old new : Stored) (seconds : ℕ) → OnOk r (contents_of new.log ≡ after_tick seconds (contents_of old.log)) → OnErr r (new.log ≡ old.log) → Keeps (meaning_of old) (meaning_of new)
 tick_keeps (Ok x) old new seconds contents same =

@@ -1,3 +1,4 @@
+mod Called
 mod Calls
 pub mod CallerLemmas
 mod Effects

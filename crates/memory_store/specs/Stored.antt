@@ -21,7 +21,8 @@ history_of log = let contents = contents_of log in contents.history
 abbrev pub leases_of : StoreLog → LeaseTable
 leases_of log = let contents = contents_of log in contents.leases
 
--- no call fails, no call is told, nobody else writes, and every key may be written
+-- no call fails, no call is told, nobody else writes, leases are numbered in turn, and every key may be
+-- written
 abbrev pub meaning_of : Stored → Meaning
 meaning_of s = record {
   contents = contents_of s.log;
@@ -29,6 +30,7 @@ meaning_of s = record {
   calls = s.calls;
   told = None;
   quiet = true;
+  numbers = true;
   writable = λ _. true;
 }
 

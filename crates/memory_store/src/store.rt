@@ -1,10 +1,12 @@
-ghost use Rattle.std.specs.Prelude.{◌≡◌, ◌≢◌, ◌<◌, ◌≤◌, ◌+◌, ◌⊎◌, ◌++◌, ◌∷◌, ℕ, List, [], true, false, length, map, IsOk, OnOk, OnErr, IfOk, IfErr, Some, None};
+ghost use Rattle.std.specs.Prelude.{◌≡◌, ◌≢◌, ◌<◌, ◌≤◌, ◌+◌, ◌⊎◌, ◌++◌, ◌∷◌, ℕ, List, [], true, false, not, length, map, IsOk, OnOk, OnErr, IfOk, IfErr, Some, None};
 ghost use Rattle.std.specs.List.{IsDistinct};
 ghost use Rattle.mesh_base.specs.Order.{same_bytes};
 ghost use Rattle.store_api.specs.History.{key_of, revision};
 ghost use Rattle.store_api.specs.Contents.{IsBatch, after_commit, after_compact, after_grant, after_keep_alive, after_tick, dead_lease, empty_contents, unchanged};
 ghost use Rattle.store_api.specs.Leases.{is_live_lease};
+ghost use Rattle.store_api.specs.Calls.{Called, ending_of, to_pull};
 ghost use Rattle.store_api.specs.Meaning.{Keeps, Makes, MayMake};
+ghost use Rattle.store_api.specs.declared.change.Batch as batch;
 ghost use Rattle.store_api.specs.declared.change.Revision.{Revision};
 ghost use Rattle.memory_store.specs.declared.entry.StoreEntry.TheVariants.{Granted, Ticked};
 ghost use Rattle.memory_store.specs.Entries.{contents_of};
@@ -182,9 +184,13 @@ impl MemoryStore {
         ensures refused { OnErr result (self.new.log ≡ self.old.log) }
         ensures refusals { IfErr result (λ fault. fault ≡ StoreFault.Memory) }
 
+        // The number behind the last one is no live lease's.
+        ensures fresh { OnOk result (not (is_live_lease (leases_of self.old.log).live ((leases_of self.old.log).last + 1)) ≡ true) }
+
         ensures calls { self.new.calls ≡ self.old.calls + 1 }
     {
         self.calls.raise();
+        self.leases.is_numbered();
         let number = self.leases.grant(seconds)?;
         note(&mut self.log, writer, StoreEntry::Granted(seconds));
         Ok(number)
@@ -308,6 +314,7 @@ impl Store for MemoryStore {
         ensures refused { IfErr result (λ fault. fault ≢ StoreFault.Lost → Makes (meaning_of self.old) (meaning_of self.new) unchanged) }
         ensures not_no_lease { (lease : ℕ) → result ≢ Err (StoreFault.NoLease lease) }
 
+        ensures call { Called (to_pull from) (ending_of batch.Batch result) (meaning_of self.old) (meaning_of self.new) }
         ensures keeps { Keeps (meaning_of self.old) (meaning_of self.new) }
 
         // Each revision names who wrote it.

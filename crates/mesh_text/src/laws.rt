@@ -1,8 +1,11 @@
 ghost use Rattle.std.specs.Prelude.{◌≡◌, List, ℕ, nat_eq};
 ghost use Rattle.std.specs.Ordering.{nat_cmp};
 ghost use Rattle.std.specs.Cmp.Lexicographic.{slice_cmp, pointwise};
+ghost use Rattle.mesh_text.specs.Kinds.{place};
 ghost use Rattle.mesh_text.specs.declared.ip.Ip.{Ip};
+ghost use Rattle.mesh_text.specs.declared.kind.Kind.{Kind};
 ghost use Rattle.mesh_text.specs.contracts.ip.IpOrd.TheImpl as ip_order;
+ghost use Rattle.mesh_text.specs.contracts.kind.KindOrd.TheImpl as kind_order;
 ghost use Rattle.mesh_text.specs.contracts.names.ClusterNameOrd.TheImpl as cluster_order;
 ghost use Rattle.mesh_text.specs.contracts.names.ClusterNamePartialEq.TheImpl as cluster_equality;
 ghost use Rattle.mesh_text.specs.contracts.names.PartNameOrd.TheImpl as part_order;
@@ -62,6 +65,11 @@ pub fn escapes_visibly()
 /// The order of addresses: IPv4 before IPv6, and the smaller number first.
 pub fn orders_ipv4_first()
     ensures { (a b : Ip) → (ip_order.ghosts).cmp a b ≡ ip_cmp a b }
+{}
+
+/// The kinds stand in one order: nodes, services, identities, addresses.
+pub fn orders_kinds_by_place()
+    ensures { (a b : Kind) → (kind_order.ghosts).cmp a b ≡ nat_cmp (place a) (place b) }
 {}
 
 /// Names are equal where their bytes are, and stand in byte order.

@@ -22,8 +22,9 @@ pub use ip::Ip;
 pub use kind::Kind;
 pub use laws::{
     canonical_text_stays, escapes_visibly, faultless_are_cluster_names, faultless_are_part_names,
-    finds_first_longest_run, no_text_of_both_families, orders_ipv4_first, orders_names_by_bytes,
-    reads_address_in_range, reads_decimal_alone, reads_written_address, unescapes_escaped,
+    finds_first_longest_run, no_text_of_both_families, orders_ipv4_first, orders_kinds_by_place,
+    orders_names_by_bytes, reads_address_in_range, reads_decimal_alone, reads_written_address,
+    unescapes_escaped,
 };
 pub use names::{ClusterName, NameFault, PartName};
 pub use numbers::read_number;

@@ -1,7 +1,7 @@
 -- What a turn says of whatever lies between the reader and its store.
 -- The form is this project's own.
 use Rattle.std.specs.Prelude.{◌+◌, if◌then◌else◌}
-use Rattle.store_api.specs.Crossing.{Request, Ending, Answers, Refuses, IsLost, to_list, to_pull}
+use Rattle.store_api.specs.Calls.{Request, Ending, Answers, Refuses, IsLost, to_list, to_pull}
 use Rattle.reflector.specs.Reader.{Reader}
 use Rattle.reflector.specs.declared.turns.Turn.{Turn}
 use Rattle.reflector.specs.declared.turns.Turn.TheVariants as turn

@@ -1,3 +1,4 @@
 pub mod Crossing
 pub mod Reader
+pub mod Talks
 pub mod Turns

@@ -5,8 +5,10 @@ ghost use Rattle.store_api.specs.Given.{IsGivenIf};
 ghost use Rattle.store_api.specs.History.{revision};
 ghost use Rattle.store_api.specs.Meaning.{Keeps, Makes, MayMake};
 ghost use Rattle.store_api.specs.Spans.{AreSpans, Record, unread};
+ghost use Rattle.store_api.specs.Calls.{Crosses, Talked, on_store};
 ghost use Rattle.reflector.specs.Crossing.{asked, end_of};
 ghost use Rattle.reflector.specs.Reader.{Stands};
+ghost use Rattle.reflector.specs.Talks.{turn_talk};
 ghost use Rattle.reflector.specs.Turns.{IsAnswer, after_turn, delivery_of, followed};
 
 use crate::turns::Turn;
@@ -113,6 +115,10 @@ impl Reflector {
         ensures refused { OnErr result (Makes (S.meaning store.old) (S.meaning store.new) unchanged) }
 
         ensures crossed { IfOk result (λ turn. S.crossed store.old store.new (asked self.old) (end_of turn)) }
+
+        // The turn is the talk of the record: one call, and the record goes on by what was heard of it.
+        ensures talk { (r : Record) → Stands self.old r → IfOk result (λ turn. Talked (on_store S.meaning S.crossed) (turn_talk most r) store.old store.new (followed turn r)) }
+
         ensures keeps { Keeps (S.meaning store.old) (S.meaning store.new) }
         ensures named { S.name store.new ≡ S.name store.old }
         ensures loans { S.loans store.new ≡ S.loans store.old }
@@ -132,6 +138,7 @@ impl Reflector {
         ensures lost { result ≡ Ok Turn.Lost → MayMake (S.meaning store.old) (S.meaning store.new) unchanged }
         ensures refused { OnErr result (Makes (S.meaning store.old) (S.meaning store.new) unchanged) }
         ensures crossed { IfOk result (λ turn. S.crossed store.old store.new (asked self.now) (end_of turn)) }
+        ensures call { IfOk result (λ turn. Crosses S.meaning S.crossed (asked self.now) (end_of turn) store.old store.new) }
         ensures keeps { Keeps (S.meaning store.old) (S.meaning store.new) }
         ensures named { S.name store.new ≡ S.name store.old }
         ensures loans { S.loans store.new ≡ S.loans store.old }
@@ -152,6 +159,7 @@ impl Reflector {
         ensures lost { result ≡ Ok Turn.Lost → MayMake (S.meaning store.old) (S.meaning store.new) unchanged }
         ensures refused { OnErr result (Makes (S.meaning store.old) (S.meaning store.new) unchanged) }
         ensures crossed { IfOk result (λ turn. S.crossed store.old store.new (asked self.now) (end_of turn)) }
+        ensures call { IfOk result (λ turn. Crosses S.meaning S.crossed (asked self.now) (end_of turn) store.old store.new) }
         ensures keeps { Keeps (S.meaning store.old) (S.meaning store.new) }
         ensures named { S.name store.new ≡ S.name store.old }
         ensures loans { S.loans store.new ≡ S.loans store.old }
@@ -175,6 +183,7 @@ impl Reflector {
         ensures lost { result ≡ Ok Turn.Lost → MayMake (S.meaning store.old) (S.meaning store.new) unchanged }
         ensures refused { OnErr result (Makes (S.meaning store.old) (S.meaning store.new) unchanged) }
         ensures crossed { IfOk result (λ turn. S.crossed store.old store.new (asked self.now) (end_of turn)) }
+        ensures call { IfOk result (λ turn. Crosses S.meaning S.crossed (asked self.now) (end_of turn) store.old store.new) }
         ensures keeps { Keeps (S.meaning store.old) (S.meaning store.new) }
         ensures named { S.name store.new ≡ S.name store.old }
         ensures loans { S.loans store.new ≡ S.loans store.old }

@@ -4,10 +4,10 @@ use Rattle.std.proofs.Math.ListN.{set}
 use Rattle.std.proofs.lemmas.List.{map-set}
 use Rattle.scenario_lang.specs.declared.scenario.RawWrite.{RawWrite}
 use Rattle.store_api.specs.Contents.{after_compact}
-use Rattle.store_api.specs.Crossing.{Request, Ending, to_commit}
+use Rattle.store_api.specs.Calls.{Request, Ending, to_commit, to_tick}
 use Rattle.store_api.specs.Meaning.{Keeps, Meaning}
 use Rattle.store_api.specs.Meaning as store
-use Rattle.scenario_replay.specs.Actions.{changes, compacted, raw_op, tick_from, to_tick, write_raw}
+use Rattle.scenario_replay.specs.Actions.{changes, compacted, raw_op, tick_from, write_raw}
 use Rattle.scenario_replay.specs.Asking.{Step, ask, done}
 use Rattle.scenario_replay.specs.Goes.{Goes, Leads}
 use Rattle.scenario_replay.specs.Shown.{HasWorld, Makes}

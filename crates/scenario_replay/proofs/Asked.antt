@@ -7,7 +7,7 @@ use Rattle.flaky_link.specs.Link.{Link}
 use Rattle.scenario_lang.specs.declared.scenario.LinkName.{LinkName}
 use Rattle.scenario_lang.specs.declared.scenario.LinkName.TheVariants as link
 use Rattle.store_api.specs.Contents.{Contents}
-use Rattle.store_api.specs.Crossing.{Request, Ending, Answers, Refuses, WantsMemory, IsLost, to_grant, to_keep_alive}
+use Rattle.store_api.specs.Calls.{Request, Ending, Answers, Refuses, WantsMemory, IsLost, to_grant, to_keep_alive}
 use Rattle.store_api.specs.Meaning.{Meaning}
 use Rattle.scenario_replay.specs.Actions.{Does, asked, asks, keep, keep_lease, kept_by, start, started_by, turn, turned_by}
 use Rattle.scenario_replay.specs.Asking.{Outcome, ask_through, done}

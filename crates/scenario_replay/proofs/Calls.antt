@@ -6,7 +6,7 @@ use Rattle.std.proofs.lemmas.List.{map-set, get_or-set_same, get_or-set_other, g
 use Rattle.std.proofs.lemmas.Bool.Decides.{eqb_tells}
 use Rattle.exporter.specs.Crossed as crossed
 use Rattle.store_api.specs.Contents.{Contents, empty_contents}
-use Rattle.store_api.specs.Crossing.{Request, Ending, Answers, Refuses, WantsMemory, IsLost}
+use Rattle.store_api.specs.Calls.{Request, Ending, Answers, Refuses, WantsMemory, IsLost, in_turn}
 use Rattle.store_api.specs.Meaning.{Meaning, Keeps, MayMake, Counts, CountsNot, Finds, Call}
 use Rattle.scenario_replay.specs.Asking.{Made, LostBefore, LostAfter, Step, ask, counted, end_of, made_of}
 use Rattle.scenario_replay.specs.Goes.{Goes, Tallies, occurrences}
@@ -15,7 +15,7 @@ use Rattle.scenario_replay.specs.World.{World, contents_at, at_store}
 
 -- the effect of a call does not change whether it is refused
 abbrev pub IsSteady : Request → Type 0
-IsSteady request = (c : Contents) → request.is_refused (request.effect c) ≡ request.is_refused c
+IsSteady request = (c : Contents) → request.is_refused (in_turn request c) ≡ request.is_refused c
 
 -- a world whose store at the place has these contents, and which is else as before but for the counts of
 -- calls
@@ -101,7 +101,7 @@ module _ (stores : List Meaning) (place : ℕ) (d new : Meaning) (lt : place < l
       }
 
       -- the store lost the call
-      lost : MayMake old new request.effect → Goes (ask place request next) (next IsLost) w stores (set stores place new) (Beside place new.contents w)
+      lost : MayMake old new (in_turn request) → Goes (ask place request next) (next IsLost) w stores (set stores place new) (Beside place new.contents w)
       lost may = elim may.whole [
         | inl none ↦ record {
           used = LostBefore ∷ [];
@@ -114,12 +114,12 @@ module _ (stores : List Meaning) (place : ℕ) (d new : Meaning) (lt : place < l
         }
         | inr all ↦ record {
           used = LostAfter ∷ [];
-          new = record (at_store place request.effect w) { asked = place ∷ w.asked; lost = place ∷ w.lost };
+          new = record (at_store place (in_turn request) w) { asked = place ∷ w.asked; lost = place ∷ w.lost };
           goes = λ more. refl;
-          stores = shows_new _ (all ∙ ap request.effect (found_is may.found may.finds));
+          stores = shows_new _ (all ∙ ap (in_turn request) (found_is may.found may.finds));
           lost = omega arith;
           tallies = lost_tallies _ refl refl may.cause (one_at_most may.counts);
-          shows = record { local = refl; stores = ap (set w.stores place) (sym (all ∙ ap request.effect (found_is may.found may.finds))); remotes = refl; reports = refl; text = refl };
+          shows = record { local = refl; stores = ap (set w.stores place) (sym (all ∙ ap (in_turn request) (found_is may.found may.finds))); remotes = refl; reports = refl; text = refl };
         }
       ]
 
@@ -129,7 +129,7 @@ module _ (stores : List Meaning) (place : ℕ) (d new : Meaning) (lt : place < l
           let m = does.1 in
           let found = found_is m.found m.finds in
           let live : request.is_refused (contents_at w place) ≡ false = subst (λ (c : Contents). request.is_refused c ≡ false) found (sym (steady m.found) ∙ ap request.is_refused (sym m.left) ∙ does.0) in
-          made Answers (rw live refl) (m.left ∙ ap request.effect found ∙ rw live refl) (one_more m.counts)
+          made Answers (rw live refl) (m.left ∙ ap (in_turn request) found ∙ rw live refl) (one_more m.counts)
       asks steady Refuses told does =
           let m = does.1 in
           let found = found_is m.found m.finds in

@@ -10,10 +10,10 @@ use Rattle.scenario_lang.specs.declared.scenario.Action.TheVariants as action
 use Rattle.scenario_lang.specs.declared.scenario.LinkName.{LinkName}
 use Rattle.scenario_lang.specs.declared.scenario.LinkName.TheVariants as link
 use Rattle.store_api.specs.Contents.{Contents}
-use Rattle.store_api.specs.Crossing.{Request, Ending, Answers, Refuses, WantsMemory, IsLost, to_commit, to_grant, to_keep_alive}
+use Rattle.store_api.specs.Calls.{Request, Ending, Answers, Refuses, WantsMemory, IsLost, in_turn, to_commit, to_grant, to_keep_alive, to_tick}
 use Rattle.store_api.specs.Meaning.{Meaning}
 use Rattle.store_api.specs.Spans.{unread}
-use Rattle.scenario_replay.specs.Actions.{Does, act, asks, asked, at_exporter, export_items, exported_by, exporter_at, if_answered, keep_lease, kept_by, most, raw_op, started_by, tick_from, to_tick, turned_by, when_of, with_failure, with_way}
+use Rattle.scenario_replay.specs.Actions.{Does, act, asks, asked, at_exporter, export_items, exported_by, exporter_at, if_answered, keep_lease, kept_by, most, raw_op, started_by, tick_from, turned_by, when_of, with_failure, with_way}
 use Rattle.scenario_replay.specs.Asking.{Outcome, Made, LostBefore, LostAfter, done, ask, ask_by, ask_through, at_link, counted, counted_lost, end_of, made_of}
 use Rattle.scenario_replay.specs.Records.{address_key, address_of, declaring, declaring_node, identity_key, identity_of, withdrawing}
 use Rattle.scenario_replay.specs.Shown.{HasSomeWorld, Makes}
@@ -31,7 +31,7 @@ ask_count : (place : ℕ) (request : Request) (next : Ending → Does) → ((e :
 ask_count place request next keeps w [] = keeps (end_of request (contents_at w place)) (at_store place (made_of request) w) []
 ask_count place request next keeps w (Made ∷ more) = keeps (end_of request (contents_at w place)) (counted place (at_store place (made_of request) w)) more
 ask_count place request next keeps w (LostBefore ∷ more) = keeps IsLost (counted_lost place w) more
-ask_count place request next keeps w (LostAfter ∷ more) = keeps IsLost (counted_lost place (at_store place request.effect w)) more
+ask_count place request next keeps w (LostAfter ∷ more) = keeps IsLost (counted_lost place (at_store place (in_turn request) w)) more
 
 by_count : (f : Fate) (name : LinkName) (remote : ℕ) (request : Request) (next : Ending → Does) → ((e : Ending) → KeepsCount (next e)) → KeepsCount (ask_by f name remote request next)
 by_count Passes name remote request next keeps w os = ask_count (store_of remote) request next keeps (at_link name remote passed w) os ∙ remote_count remote (with_link name passed) w

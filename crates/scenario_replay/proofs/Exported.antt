@@ -7,7 +7,7 @@ use Rattle.exporter.specs.State.{Export, after_item, after_items, next_ops, turn
 use Rattle.flaky_link.specs.Link.{Link}
 use Rattle.scenario_lang.specs.declared.scenario.LinkName.TheVariants as link
 use Rattle.store_api.specs.Contents.{Contents}
-use Rattle.store_api.specs.Crossing.{Request, Ending, Answers, Refuses, WantsMemory, IsLost, to_commit}
+use Rattle.store_api.specs.Calls.{Request, Ending, Answers, Refuses, WantsMemory, IsLost, to_commit}
 use Rattle.store_api.specs.Meaning.{Meaning}
 use Rattle.scenario_replay.specs.Actions.{Does, at_exporter, export, export_items, exported_by, exporter_at, if_answered}
 use Rattle.scenario_replay.specs.Asking.{Outcome, ask_through, done}

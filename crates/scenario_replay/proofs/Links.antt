@@ -11,7 +11,7 @@ use Rattle.flaky_link.specs.declared.state.Fate.TheVariants.{Passes, FailsBefore
 use Rattle.scenario_lang.specs.declared.scenario.LinkName.{LinkName}
 use Rattle.scenario_lang.specs.declared.scenario.LinkName.TheVariants as link
 use Rattle.store_api.specs.Contents.{Contents}
-use Rattle.store_api.specs.Crossing.{Request, Ending, Answers, Refuses, WantsMemory, IsLost}
+use Rattle.store_api.specs.Calls.{Request, Ending, Answers, Refuses, WantsMemory, IsLost, in_turn}
 use Rattle.store_api.specs.Meaning.{Meaning, Keeps, Makes, MayMake}
 use Rattle.scenario_replay.specs.Asking.{Step, ask, ask_by, ask_through, at_link}
 use Rattle.scenario_replay.specs.Goes.{Goes}
@@ -50,7 +50,7 @@ passed_faults l = passed_by (is_worn l) l _ refl
 
 -- what a call did through a link that let it pass is what it did to the store
 keeps_behind : (l l' : Link) (m m' : Meaning) → l'.faults ≡ l.faults → Keeps (linked l m) (linked l' m') → Keeps m m'
-keeps_behind l l' m m' same k = record { history = k.history; faults = omega (arith, k.faults, same); quiet = k.quiet; writable = k.writable }
+keeps_behind l l' m m' same k = record { history = k.history; faults = omega (arith, k.faults, same); quiet = k.quiet; numbers = k.numbers; writable = k.writable }
 
 makes_behind : (l l' : Link) (m m' : Meaning) (effect : Contents → Contents) → Makes (linked l m) (linked l' m') effect → Makes m m' effect
 makes_behind l l' m m' effect x = record {
@@ -73,10 +73,10 @@ may_make_behind l l' m m' effect same x = record {
 }
 
 does_behind : (request : Request) (end : Ending) (l l' : Link) (m m' : Meaning) → l'.faults ≡ l.faults → crossed.Does request end (linked l m) (linked l' m') → crossed.Does request end m m'
-does_behind request Answers l l' m m' same d = (d.0, makes_behind l l' m m' request.effect d.1)
+does_behind request Answers l l' m m' same d = (d.0, makes_behind l l' m m' (in_turn request) d.1)
 does_behind request Refuses l l' m m' same d = (d.0, makes_behind l l' m m' (λ c. c) d.1)
 does_behind request WantsMemory l l' m m' same d = makes_behind l l' m m' (λ c. c) d
-does_behind request IsLost l l' m m' same d = may_make_behind l l' m m' request.effect same d
+does_behind request IsLost l l' m m' same d = may_make_behind l l' m m' (in_turn request) same d
 
 module _ (link : LinkName) (remote : ℕ) (request : Request) (steady : IsSteady request) (stores : List Meaning) (d new : Meaning) (lt : store_of remote < length stores) (w : World) (shows : w.stores ≡ map (λ (m : Meaning). m.contents) stores) where
   abbrev old : Meaning

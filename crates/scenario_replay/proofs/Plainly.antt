@@ -12,9 +12,9 @@ use Rattle.scenario_lang.specs.declared.scenario.Action.TheVariants as action
 use Rattle.scenario_lang.specs.declared.scenario.LinkName.{LinkName}
 use Rattle.scenario_lang.specs.declared.scenario.LinkName.TheVariants as link
 use Rattle.store_api.specs.Contents.{Contents}
-use Rattle.store_api.specs.Crossing.{Request, Ending, Answers, Refuses, WantsMemory, IsLost, to_commit}
+use Rattle.store_api.specs.Calls.{Request, Ending, Answers, Refuses, WantsMemory, IsLost, to_commit, to_tick}
 use Rattle.store_api.specs.Meaning.{Meaning}
-use Rattle.scenario_replay.specs.Actions.{Does, act, act_all, asks, at_exporter, changes, export_items, exported_by, if_answered, keep_lease, kept_by, raw_op, run, started_by, tick_from, to_tick, turned_by, most, asked, exporter_at, reported, restarted, when_of, with_failure, with_way}
+use Rattle.scenario_replay.specs.Actions.{Does, act, act_all, asks, at_exporter, changes, export_items, exported_by, if_answered, keep_lease, kept_by, raw_op, run, started_by, tick_from, turned_by, most, asked, exporter_at, reported, restarted, when_of, with_failure, with_way}
 use Rattle.scenario_replay.specs.Asking.{Outcome, Made, LostBefore, LostAfter, done, ask, ask_by, ask_through, at_link, counted, end_of, made_of}
 use Rattle.scenario_replay.specs.Goes.{losses, occurrences}
 use Rattle.scenario_replay.specs.Program.{NoneFailed, Reports, contents_of}

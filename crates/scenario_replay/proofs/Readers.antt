@@ -8,7 +8,7 @@ use Rattle.exporter.specs.Crossed.{Does}
 use Rattle.store_api.specs.Advance.{turned}
 use Rattle.mesh_base.specs.declared.memory.Memory.{Memory}
 use Rattle.store_api.specs.Contents.{Contents, unchanged}
-use Rattle.store_api.specs.Crossing.{to_list, to_pull}
+use Rattle.store_api.specs.Calls.{to_list, to_pull, in_turn}
 use Rattle.store_api.specs.Followed.{Followed}
 use Rattle.store_api.specs.Given.{IsGiven, IsGivenIf, gone_on, gone_on_if}
 use Rattle.store_api.specs.History.{Begins, History, revision}
@@ -43,8 +43,8 @@ told_turn turn.Lost = tt
 told_turn turn.NothingNew = tt
 
 -- its call has no effect
-no_effect : (reader : Reader) → (asked reader).effect ≡ unchanged
-no_effect reader = elim reader.is_waiting as (λ b. (if b then to_list else to_pull (reader.cursor + 1)).effect ≡ unchanged) [ true ↦ refl | false ↦ refl ]
+no_effect : (reader : Reader) → in_turn (asked reader) ≡ unchanged
+no_effect reader = elim reader.is_waiting as (λ b. in_turn (if b then to_list else to_pull (reader.cursor + 1)) ≡ unchanged) [ true ↦ refl | false ↦ refl ]
 
 -- whether the call is refused
 lists : (reader : Reader) (c : Contents) → reader.is_waiting ≡ true → (asked reader).is_refused c ≡ false

@@ -10,7 +10,7 @@ use Rattle.relist_merge.specs.Sight.{viewed}
 use Rattle.relist_merge.proofs.CallerLemmas.{follows_later}
 use Rattle.store_api.proofs.CallerLemmas.{later-revision, later_spans}
 use Rattle.store_api.specs.Contents.{Contents}
-use Rattle.store_api.specs.Crossing.{Request, Ending, Answers, Refuses, WantsMemory, IsLost, to_list, to_pull}
+use Rattle.store_api.specs.Calls.{Request, Ending, Answers, Refuses, WantsMemory, IsLost, to_list, to_pull}
 use Rattle.store_api.specs.History.{Begins, History, revision}
 use Rattle.store_api.specs.Meaning.{Meaning}
 use Rattle.store_api.specs.Spans.{Record, cursor_of}

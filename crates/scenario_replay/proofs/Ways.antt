@@ -1,7 +1,7 @@
 -- What became of the calls of an exporter that was handed a link, as calls through the link to a store.
 use Rattle.std.proofs.Common.{◌≡◌, ◌≢◌, ℕ, refl, subst, inl, inr}
 use Rattle.store_api.specs.Contents.{Contents}
-use Rattle.store_api.specs.Crossing.{Request, Ending, Refuses, IsLost, to_commit}
+use Rattle.store_api.specs.Calls.{Request, Ending, Refuses, IsLost, to_commit}
 use Rattle.store_api.specs.Meaning.{Meaning}
 use Rattle.exporter.specs.Calls as of
 use Rattle.exporter.specs.Crossed.{Crosses, CrossesAll, CrossesOnce, CrossesUpTo, commits, ended_by}

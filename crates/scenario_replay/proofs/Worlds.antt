@@ -8,13 +8,13 @@ use Rattle.std.specs.List.{IsDistinct}
 use Rattle.flaky_link.specs.Link.{Link, linked}
 use Rattle.mesh_base.specs.Order.{same_bytes}
 use Rattle.store_api.specs.Contents.{Contents, empty_contents}
-use Rattle.store_api.specs.Crossing.{to_commit, to_grant, to_keep_alive, to_list, to_pull}
+use Rattle.store_api.specs.Calls.{to_commit, to_grant, to_keep_alive, to_list, to_pull, to_tick}
 use Rattle.store_api.specs.History.{Begins}
 use Rattle.store_api.specs.Leases.{Lease, deadline_at, is_live_lease, kept_alive}
 use Rattle.store_api.specs.Meaning.{Meaning, Keeps}
 use Rattle.store_api.specs.Spans.{Record, cursor_of}
 use Rattle.store_api.specs.declared.change.Op.{Op}
-use Rattle.scenario_replay.specs.Actions.{asked, to_tick}
+use Rattle.scenario_replay.specs.Actions.{asked}
 use Rattle.scenario_replay.specs.Goes.{IsOpen}
 use Rattle.scenario_replay.specs.Shown.{HasSomeWorld, HasWorld, IsShown, IsSome, names_in}
 use Rattle.scenario_replay.specs.World as world

@@ -4,7 +4,7 @@
 use Rattle.std.specs.Prelude.{ℕ, zero, suc, ◌+◌, ◌-◌, ◌^◌, List, [], ◌∷◌, ◌++◌, map, length, Bool, not, true, false, if◌then◌else◌, Option, None, Some}
 use Rattle.store_api.specs.Advance.{closed, turned}
 use Rattle.store_api.specs.Contents.{Contents, after_tick, after_compact}
-use Rattle.store_api.specs.Crossing.{Request, Ending, Answers, Refuses, IsLost, to_list, to_pull, to_commit, to_grant, to_keep_alive}
+use Rattle.store_api.specs.Calls.{Request, Ending, Answers, Refuses, IsLost, to_list, to_pull, to_commit, to_grant, to_keep_alive, to_tick}
 use Rattle.store_api.specs.History.{revision}
 use Rattle.store_api.specs.Spans.{Record, cursor_of, unread}
 use Rattle.store_api.specs.declared.change.Op.{Op}
@@ -107,9 +107,6 @@ abbrev pub write_raw : ℕ → RawWrite → Does
 write_raw remote write w outcomes = ask (store_of remote) (to_commit (raw_op write ∷ [])) (λ end. done) w outcomes
 
 -- tick: the clock of each of so many stores from a place on, one after another
-abbrev pub to_tick : ℕ → Request
-to_tick seconds = record { effect = after_tick seconds; is_refused = λ c. false }
-
 abbrev pub tick_from : ℕ → ℕ → ℕ → Does
 tick_from place zero seconds w outcomes = done w outcomes
 tick_from place (suc n) seconds w outcomes = ask place (to_tick seconds) (λ end. tick_from (place + 1) n seconds) w outcomes

@@ -2,7 +2,7 @@
 -- Source: etcd, "KV API guarantees" (a call that fails at the client may or may not have been applied).
 use Rattle.std.specs.Prelude.{ℕ, List, [], ◌∷◌, if◌then◌else◌}
 use Rattle.store_api.specs.Contents.{Contents}
-use Rattle.store_api.specs.Crossing.{Request, Ending, Answers, Refuses, IsLost}
+use Rattle.store_api.specs.Calls.{Request, Ending, Answers, Refuses, IsLost, in_turn}
 use Rattle.flaky_link.specs.Link.{Link, fate, failed, passed}
 use Rattle.flaky_link.specs.declared.state.Fate.{Fate}
 use Rattle.flaky_link.specs.declared.state.Fate.TheVariants.{Passes, FailsBefore, FailsAfter}
@@ -28,7 +28,7 @@ abbrev pub end_of : Request → Contents → Ending
 end_of request c = if request.is_refused c then Refuses else Answers
 
 abbrev pub made_of : Request → Contents → Contents
-made_of request c = if request.is_refused c then c else request.effect c
+made_of request c = if request.is_refused c then c else in_turn request c
 
 -- a call on the store at the place is counted
 abbrev pub counted : ℕ → World → World
@@ -43,7 +43,7 @@ abbrev pub ask : {X : Type 0} → ℕ → Request → (Ending → Step X) → St
 ask place request next w [] = next (end_of request (contents_at w place)) (at_store place (made_of request) w) []
 ask place request next w (Made ∷ more) = next (end_of request (contents_at w place)) (counted place (at_store place (made_of request) w)) more
 ask place request next w (LostBefore ∷ more) = next IsLost (counted_lost place w) more
-ask place request next w (LostAfter ∷ more) = next IsLost (counted_lost place (at_store place request.effect w)) more
+ask place request next w (LostAfter ∷ more) = next IsLost (counted_lost place (at_store place (in_turn request) w)) more
 
 -- the link to the remote's store is changed
 abbrev pub at_link : LinkName → ℕ → (Link → Link) → World → World

@@ -7,7 +7,7 @@ use Rattle.reflector.specs.Reader.{Stands}
 use Rattle.relist_merge.specs.Sight.{viewed}
 use Rattle.relist_merge.specs.View.{Follows}
 use Rattle.store_api.specs.Contents.{Contents}
-use Rattle.store_api.specs.Crossing.{Ending}
+use Rattle.store_api.specs.Calls.{Ending}
 use Rattle.store_api.specs.History.{History, revision}
 use Rattle.store_api.specs.Spans.{AreSpans, Record}
 use Rattle.scenario_replay.specs.Actions.{turned_by}

@@ -7,7 +7,7 @@ use Rattle.flaky_link.specs.Link.{Link}
 use Rattle.scenario_lang.specs.declared.scenario.LinkName.{LinkName}
 use Rattle.scenario_lang.specs.declared.scenario.Remote as said
 use Rattle.store_api.specs.Contents.{Contents}
-use Rattle.store_api.specs.Crossing.{Request, Ending}
+use Rattle.store_api.specs.Calls.{Request, Ending}
 use Rattle.store_api.specs.History.{History}
 use Rattle.store_api.specs.Meaning.{Meaning}
 use Rattle.scenario_replay.specs.Actions.{Does}

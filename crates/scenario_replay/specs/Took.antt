@@ -1,7 +1,7 @@
 -- A call through a link to a store, and what its end made of the caller.
 use Rattle.std.specs.Prelude.{◌≡◌, ◌⊎◌, ◌<◌, ℕ, List, Some}
 use Rattle.store_api.specs.Contents.{Contents}
-use Rattle.store_api.specs.Crossing.{Request, Ending, Refuses, WantsMemory, IsLost, to_commit, to_keep_alive}
+use Rattle.store_api.specs.Calls.{Request, Ending, Refuses, WantsMemory, IsLost, to_commit, to_keep_alive}
 use Rattle.store_api.specs.Meaning.{Meaning, Keeps}
 use Rattle.flaky_link.specs.Crossed.{Crossed}
 use Rattle.flaky_link.specs.Link.{Link, linked}

@@ -1,7 +1,7 @@
 // The calls that an exporter makes on its store through a link.
 ghost use Rattle.std.specs.Prelude.{◌≡◌, ◌≢◌, ℕ, List, OnOk, None, true};
 ghost use Rattle.flaky_link.specs.Link.{loans_of};
-ghost use Rattle.store_api.specs.Crossing.{to_grant};
+ghost use Rattle.store_api.specs.Calls.{to_grant};
 ghost use Rattle.scenario_replay.specs.Actions.{started_by};
 ghost use Rattle.scenario_replay.specs.Took.{Exports, Kept, Took};
 

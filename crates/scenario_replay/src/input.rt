@@ -27,6 +27,7 @@ pub fn read_input<R: Source>(alloc: Global, source: &mut R) -> Result<Scenario, 
     ensures ended { OnOk result (IfSome (R.left source.new) (λ rest. rest ≡ [])) }
     ensures refused { (fault : LineFault) → result ≡ Err (Unread.Refused fault) → IfSome (R.left source.old) (λ input. scenario_of mode.Step input ≡ Err fault) }
     ensures heard { (fault : LineFault) → result ≡ Err (Unread.Refused fault) → TookEnough (R.left source.old) (R.left source.new) }
+    ensures calm { (fault : LineFault) → result ≡ Err (Unread.Refused fault) → R.faults source.new ≡ R.faults source.old }
     ensures failed { result ≡ Err Unread.Failed → HasFailed (R.faults source.old) (R.faults source.new) }
 {
     let input = match read_all(alloc, source) {

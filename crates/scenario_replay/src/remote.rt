@@ -1,7 +1,7 @@
 // What the program keeps of one remote cluster.
 ghost use Rattle.std.specs.Prelude.{◌≡◌, ◌≤◌, ℕ, List, IfOk, OnOk, None, Some, true, Ok, false};
 ghost use Rattle.exporter.specs.State.{after_stop};
-ghost use Rattle.store_api.specs.Crossing.{to_grant, to_keep_alive};
+ghost use Rattle.store_api.specs.Calls.{to_grant, to_keep_alive};
 ghost use Rattle.store_api.specs.History.{History};
 ghost use Rattle.store_api.specs.Spans.{unread};
 ghost use Rattle.scenario_lang.specs.declared.scenario.LinkName.TheVariants as link;

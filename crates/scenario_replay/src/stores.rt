@@ -1,9 +1,10 @@
 // The calls that are made straight on a store, without a link.
 ghost use Rattle.std.specs.Prelude.{◌≡◌, ℕ, List, OnOk, IfOk, ◌∷◌, [], true};
 ghost use Rattle.store_api.specs.Contents.{after_compact};
-ghost use Rattle.store_api.specs.Crossing.{to_commit};
+ghost use Rattle.store_api.specs.Calls.{to_commit};
 ghost use Rattle.store_api.specs.Meaning.{Keeps, Makes};
-ghost use Rattle.scenario_replay.specs.Actions.{raw_op, to_tick};
+ghost use Rattle.scenario_replay.specs.Actions.{raw_op};
+ghost use Rattle.store_api.specs.Calls.{to_tick};
 ghost use Rattle.scenario_replay.specs.Took.{Answered};
 
 use mesh_base::Memory;
@@ -34,7 +35,8 @@ pub fn write_raw<S: Store>(alloc: Global, store: &mut S, write: &RawWrite) -> Re
 {
     let ops = [raw_op(write)?];
     match store.commit(alloc, &ops) {
-        Ok(_) | Err(StoreFault::Lost) => Ok(()),
+        Ok(_) => Ok(()),
+        Err(StoreFault::Lost) => Ok(()),
         Err(_) => Err(Memory),
     }
 }

@@ -26,6 +26,8 @@ pub fn read_all<R: Source>(alloc: Global, source: &mut R) -> Result<Vec<u8>, Rea
     ensures enough { OnOk result (TookEnough (R.left source.old) (R.left source.new)) }
     ensures one_too_many { result ≡ Err ReadStop.TooLong → TookEnough (R.left source.old) (R.left source.new) }
     ensures failed { result ≡ Err ReadStop.Failed → HasFailed (R.faults source.old) (R.faults source.new) }
+    ensures calm { OnOk result (R.faults source.new ≡ R.faults source.old) }
+    ensures calm_too_long { result ≡ Err ReadStop.TooLong → R.faults source.new ≡ R.faults source.old }
     ensures count { R.faults source.old ≤ R.faults source.new }
 {
     let mut all = Vec::new(alloc);

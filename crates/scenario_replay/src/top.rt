@@ -84,8 +84,10 @@ pub fn mesh_steps<R: Source, W: Sink, S: StoreAdmin>(
     ensures refused { (line : ℕ) (why : LineKind) → result ≡ Status.Scenario line why
         → IfSome (R.left source.old) (λ input. scenario_of mode.Step input ≡ Err (record { line = line; kind = why })) × HoldsMore (W.holds sink.old) (W.holds sink.new) (refusal_line (record { line = line; kind = why })) }
 
-    // The first fault is told when the input was read to its end, or one byte more than it may have was taken.
+    // The first fault is told when the input was read to its end, or one byte more than it may have was taken,
+    // and no read failed.
     ensures heard { (line : ℕ) (why : LineKind) → result ≡ Status.Scenario line why → TookEnough (R.left source.old) (R.left source.new) }
+    ensures unfailed { (line : ℕ) (why : LineKind) → result ≡ Status.Scenario line why → R.faults source.new ≡ R.faults source.old }
 
     // A fault is told only where the outside failed. After a write fault a front of what was to be written
     // is written.

@@ -1,6 +1,6 @@
 -- Leases: the clock, the live leases, what each call does to them, and which of them are due.
--- Source: etcd's API, Lease service (LeaseGrant, LeaseKeepAlive, LeaseRevoke). That numbers are
--- granted from 1 upwards, and that leases due together lapse by deadline and then number, is this
+-- Source: etcd's API, Lease service (LeaseGrant, LeaseKeepAlive, LeaseRevoke). That numbers may be
+-- granted in turn, from 1 upwards, and that leases due together lapse by deadline and then number, is this
 -- project's own.
 use Rattle.std.specs.Prelude.{ℕ, ◌+◌, ◌-◌, ◌^◌, ◌==◌, nat_le, min, not, List, [], ◌∷◌, ◌++◌, map, filter, find, Bool, if◌then◌else◌, Option, option_map}
 use Rattle.std.specs.List.{list_any}
@@ -31,13 +31,21 @@ is_live_lease live number = list_any (λ (lease : Lease). lease.number == number
 abbrev pub deadline_at : ℕ → ℕ → ℕ
 deadline_at now seconds = min (now + seconds) (2 ^ 64 - 1)
 
--- the lease that is granted next, for these seconds
+-- a lease that is granted with this number, for these seconds
+abbrev pub new_lease : ℕ → ℕ → LeaseTable → Lease
+new_lease number seconds table = record { number = number; seconds = seconds; deadline = deadline_at table.now seconds }
+
+-- the table with that lease
+abbrev pub granted_as : ℕ → ℕ → LeaseTable → LeaseTable
+granted_as number seconds table = record table { live = table.live ++ new_lease number seconds table ∷ []; last = number }
+
+-- the lease that is granted next where numbers are granted in turn
 abbrev pub next_lease : ℕ → LeaseTable → Lease
-next_lease seconds table = record { number = table.last + 1; seconds = seconds; deadline = deadline_at table.now seconds }
+next_lease seconds table = new_lease (table.last + 1) seconds table
 
 -- the table with that lease
 abbrev pub granted : ℕ → LeaseTable → LeaseTable
-granted seconds table = record table { live = table.live ++ next_lease seconds table ∷ []; last = table.last + 1 }
+granted seconds table = granted_as (table.last + 1) seconds table
 
 -- the lease, with its whole time to live from now on where it has the number
 abbrev pub kept_alive : ℕ → ℕ → Lease → Lease

@@ -1,7 +1,7 @@
 pub mod Advance
 pub mod Attached
+pub mod Calls
 pub mod Contents
-pub mod Crossing
 pub mod Followed
 pub mod Given
 pub mod History

@@ -10,13 +10,15 @@ pub record Call : Type 0 where
   pub left : Contents
 
 -- the contents, how often calls failed and were made, the calls where the store tells them,
--- whether nobody else writes, and the keys that may be written
+-- whether nobody else writes, whether each lease is granted with the number after the last, and the
+-- keys that may be written
 pub record Meaning : Type 0 where
   pub contents : Contents
   pub faults : ℕ
   pub calls : ℕ
   pub told : Option (List Call)
   pub quiet : Bool
+  pub numbers : Bool
   pub writable : List ℕ → Bool
 
 -- a call finds the contents as they were, or later ones where others write too
@@ -60,4 +62,5 @@ pub record Keeps (old new : Meaning) : Type 0 where
   pub history : Begins old.contents.history new.contents.history
   pub faults : old.faults ≤ new.faults
   pub quiet : new.quiet ≡ old.quiet
+  pub numbers : new.numbers ≡ old.numbers
   pub writable : (k : List ℕ) → new.writable k ≡ old.writable k

@@ -59,6 +59,8 @@ impl Source for BytesSource {
         ensures failed { OnErr result (self.new ≡ failed_read self.old) }
         ensures cause { OnErr result (HasFailed self.old.faults self.new.faults) }
 
+        ensures calm { OnOk result (self.new.faults ≡ self.old.faults) }
+
         ensures count { self.old.faults ≤ self.new.faults }
     {
         let call = self.calls;
@@ -137,6 +139,8 @@ impl Sink for BytesSink {
         ensures fails { OnErr result (FailsToWrite self.old bytes.now) }
         ensures failed { OnErr result (self.new ≡ failed_write self.old) }
         ensures cause { OnErr result (HasFailed self.old.faults self.new.faults) }
+
+        ensures calm { OnOk result (self.new.faults ≡ self.old.faults) }
 
         ensures count { self.old.faults ≤ self.new.faults }
     {

@@ -3,7 +3,7 @@ ghost use Rattle.std.specs.List.{IsDistinct};
 ghost use Rattle.mesh_base.specs.Order.{same_bytes};
 ghost use Rattle.store_api.specs.History.{key_of, revision};
 ghost use Rattle.store_api.specs.Contents.{IsBatch, IsListing, after_commit, after_compact, after_grant, after_keep_alive, after_tick, dead_lease, unchanged};
-ghost use Rattle.store_api.specs.Crossing.{Ending, Request, ending_of, to_commit, to_grant, to_keep_alive, to_list, to_pull};
+ghost use Rattle.store_api.specs.Calls.{Called, Ending, Request, ending_of, memory_ending, to_commit, to_compact, to_grant, to_keep_alive, to_list, to_pull, to_tick};
 ghost use Rattle.store_api.specs.Leases.{is_live_lease};
 ghost use Rattle.store_api.specs.declared.change.Batch as batch;
 ghost use Rattle.store_api.specs.declared.change.Listing as listing;
@@ -20,8 +20,9 @@ pub const MAX_OPS: usize = 128;
 ///
 /// Its meaning is one record: the contents (history, compacted revision, leases), how many calls
 /// failed and how many were made, what each call found and left (where the store tells it),
-/// whether nobody else writes, and which keys may be written. Every call finds the contents as
-/// they were, or later ones where others write too; its answer speaks of what it leaves.
+/// whether nobody else writes, whether leases are numbered in turn, and which keys may be written.
+/// Every call finds the contents as they were, or later ones where others write too; its answer
+/// speaks of what it leaves.
 pub trait Store {
     /// What tells this store from others.
     type Name;
@@ -50,6 +51,9 @@ pub trait Store {
         ensures lost { result ≡ Err StoreFault.Lost → MayMake (meaning self.old) (meaning self.new) unchanged }
         ensures refused { IfErr result (λ fault. fault ≢ StoreFault.Lost → Makes (meaning self.old) (meaning self.new) unchanged) }
         ensures refusals { IfErr result (λ fault. (fault ≡ StoreFault.Lost) ⊎ (fault ≡ StoreFault.Memory)) }
+
+        // How it ended, in the words that are the same for every call.
+        ensures call { Called to_list (ending_of listing.Listing result) (meaning self.old) (meaning self.new) }
 
         ensures keeps { Keeps (meaning self.old) (meaning self.new) }
         ensures named { name self.new ≡ name self.old }
@@ -86,6 +90,9 @@ pub trait Store {
         ensures refused { IfErr result (λ fault. fault ≢ StoreFault.Lost → Makes (meaning self.old) (meaning self.new) unchanged) }
         ensures not_no_lease { (lease : ℕ) → result ≢ Err (StoreFault.NoLease lease) }
 
+        // How it ended, in the words that are the same for every call.
+        ensures call { Called (to_pull from) (ending_of batch.Batch result) (meaning self.old) (meaning self.new) }
+
         ensures keeps { Keeps (meaning self.old) (meaning self.new) }
         ensures named { name self.new ≡ name self.old }
         ensures crossed { crossed self.old self.new (to_pull from) (ending_of batch.Batch result) }
@@ -112,6 +119,9 @@ pub trait Store {
         ensures refused { IfErr result (λ fault. fault ≢ StoreFault.Lost → Makes (meaning self.old) (meaning self.new) unchanged) }
         ensures not_compacted { (compacted : ℕ) → result ≢ Err (StoreFault.Compacted compacted) }
 
+        // How it ended, in the words that are the same for every call.
+        ensures call { Called (to_commit ops.now) (ending_of ℕ result) (meaning self.old) (meaning self.new) }
+
         ensures keeps { Keeps (meaning self.old) (meaning self.new) }
         ensures named { name self.new ≡ name self.old }
         ensures crossed { crossed self.old self.new (to_commit ops.now) (ending_of ℕ result) }
@@ -129,6 +139,9 @@ pub trait Store {
         ensures lost { result ≡ Err StoreFault.Lost → MayMake (meaning self.old) (meaning self.new) (after_grant seconds) }
         ensures refused { IfErr result (λ fault. fault ≢ StoreFault.Lost → Makes (meaning self.old) (meaning self.new) unchanged) }
         ensures refusals { IfErr result (λ fault. (fault ≡ StoreFault.Lost) ⊎ (fault ≡ StoreFault.Memory)) }
+
+        // How it ended, in the words that are the same for every call.
+        ensures call { Called (to_grant seconds) (ending_of ℕ result) (meaning self.old) (meaning self.new) }
 
         ensures keeps { Keeps (meaning self.old) (meaning self.new) }
         ensures named { name self.new ≡ name self.old }
@@ -149,6 +162,9 @@ pub trait Store {
         ensures lost { result ≡ Err StoreFault.Lost → MayMake (meaning self.old) (meaning self.new) (after_keep_alive lease) }
         ensures refused { IfErr result (λ fault. fault ≢ StoreFault.Lost → Makes (meaning self.old) (meaning self.new) unchanged) }
         ensures refusals { IfErr result (λ fault. (fault ≡ StoreFault.Lost) ⊎ (fault ≡ StoreFault.NoLease lease)) }
+
+        // How it ended, in the words that are the same for every call.
+        ensures call { Called (to_keep_alive lease) (ending_of (Unit {0}) result) (meaning self.old) (meaning self.new) }
 
         ensures keeps { Keeps (meaning self.old) (meaning self.new) }
         ensures named { name self.new ≡ name self.old }
@@ -172,6 +188,9 @@ pub trait StoreAdmin: Store {
         ensures refused { IfErr result (λ fault. fault ≢ StoreFault.Lost → Makes (Self.meaning self.old) (Self.meaning self.new) unchanged) }
         ensures refusals { IfErr result (λ fault. (fault ≡ StoreFault.Lost) ⊎ (fault ≡ StoreFault.Memory)) }
 
+        // How it ended, in the words that are the same for every call.
+        ensures call { Called (to_tick seconds) (ending_of ℕ result) (Self.meaning self.old) (Self.meaning self.new) }
+
         ensures keeps { Keeps (Self.meaning self.old) (Self.meaning self.new) }
         ensures named { Self.name self.new ≡ Self.name self.old }
         ensures loans { Self.loans self.new ≡ Self.loans self.old };
@@ -184,6 +203,9 @@ pub trait StoreAdmin: Store {
         ensures made { OnOk result (Makes (Self.meaning self.old) (Self.meaning self.new) (after_compact upto)) }
         ensures number { IfOk result (λ number. number ≡ (Self.meaning self.new).contents.compacted) }
         ensures refused { OnErr result (Makes (Self.meaning self.old) (Self.meaning self.new) unchanged) }
+
+        // How it ended, in the words that are the same for every call.
+        ensures call { Called (to_compact upto) (memory_ending ℕ result) (Self.meaning self.old) (Self.meaning self.new) }
 
         ensures keeps { Keeps (Self.meaning self.old) (Self.meaning self.new) }
         ensures named { Self.name self.new ≡ Self.name self.old }

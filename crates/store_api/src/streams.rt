@@ -1,4 +1,4 @@
-ghost use Rattle.std.specs.Prelude.{◌≡◌, ◌≤◌, ◌<◌, ℕ, List, [], Option, take, length, IfOk, OnErr, is_some, IfSome};
+ghost use Rattle.std.specs.Prelude.{◌≡◌, ◌≤◌, ◌<◌, ℕ, List, [], Option, take, length, IfOk, OnOk, OnErr, is_some, IfSome};
 ghost use Rattle.store_api.specs.Streams.{HasFailed, HoldsMore, Took};
 
 /// The outside failed.
@@ -24,6 +24,9 @@ pub trait Source {
         ensures told { OnErr result (is_some (left self.new) ≡ is_some (left self.old)) }
         ensures cause { OnErr result (HasFailed (faults self.old) (faults self.new)) }
 
+        // A success is no failure.
+        ensures calm { OnOk result (faults self.new ≡ faults self.old) }
+
         ensures count { faults self.old ≤ faults self.new };
 }
 
@@ -45,6 +48,9 @@ pub trait Sink {
 
         ensures kept { OnErr result (holds self.new ≡ holds self.old) }
         ensures cause { OnErr result (HasFailed (faults self.old) (faults self.new)) }
+
+        // A success is no failure.
+        ensures calm { OnOk result (faults self.new ≡ faults self.old) }
 
         ensures count { faults self.old ≤ faults self.new };
 }

@@ -1,6 +1,6 @@
 use Rattle.std.proofs.lemmas.Result.{on_ok_weaker}
 use Rattle.exporter.specs.Crossed.{ended_by}
-use Rattle.store_api.specs.Crossing.{Answers}
+use Rattle.store_api.specs.Calls.{Answers}
 use Rattle.scenario_replay.proofs.Ways.{not_kept, told_by}
 use Rattle.scenario_replay.proofs.exporters.keep_over.Goals as goal
 

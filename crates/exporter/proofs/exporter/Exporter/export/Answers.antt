@@ -1,11 +1,12 @@
 use Rattle.std.proofs.Common.{◌≡◌, ◌∙◌, ℕ, length, ap, sym, subst, arith, add-one}
-use Rattle.store_api.specs.Crossing.{Answers, to_commit}
+use Rattle.store_api.specs.Calls.{Answers, to_commit}
 use Rattle.store_api.specs.Meaning.{Meaning}
 use Rattle.exporter.specs.Calls.{Writes, WritesAll}
 use Rattle.exporter.specs.Crossed.{Crosses, CrossesAll, commits, ended}
 use Rattle.exporter.specs.State.{Export, after_item, after_items, next_ops}
 use Rattle.exporter.proofs.CallerLemmas.{crosses_more, once_answered}
-use Rattle.exporter.proofs.Steps.{after_more, left_after, writes_more, keeps_both}
+use Rattle.store_api.proofs.Calls.{keeps_both}
+use Rattle.exporter.proofs.Steps.{after_more, left_after, writes_more}
 use Rattle.exporter.proofs.exporter.Exporter.export.Goals as goal
 
 pub export_one-requires-clause-waiting : goal.export_one-requires-clause-waiting

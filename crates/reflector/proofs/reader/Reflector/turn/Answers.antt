@@ -3,6 +3,7 @@ use Rattle.store_api.specs.Advance.{closed}
 use Rattle.reflector.specs.Reader.{Reader, Stands}
 use Rattle.reflector.specs.Turns.{followed}
 use Rattle.reflector.proofs.Turning.{stands_turned, advance_turned, order_turned, reads_turned, untaken_turned}
+use Rattle.reflector.proofs.Talking.{talked_turn}
 use Rattle.reflector.proofs.reader.Reflector.turn.Goals as goal
 
 pub returns-clause-stands : goal.returns-clause-stands
@@ -24,3 +25,6 @@ pub returns-clause-untaken : goal.returns-clause-untaken
 returns-clause-untaken g c r stands are =
     let after = untaken_turned c.args.most (g.S.Store.meaning c.args.store.now).contents.history (g.S.Store.meaning c.ask.new.store).contents c.args.self.now c.in_ok-turn.turn r c.in_ok-turn.ensures.answer stands c.ask.ensures.keeps.history are in
     subst (λ (reader : Reader). Stands (record reader { is_waiting = true }) (closed r)) (sym c.advance.ensures) after
+
+pub returns-clause-talk : goal.returns-clause-talk
+returns-clause-talk g c r stands = talked_turn g.S.Store.meaning g.S.Store.crossed c.args.most c.args.self.now r c.in_ok-turn.turn c.args.store.now c.ask.new.store c.in_ok-turn.ensures.answer stands c.in_ok-turn.ensures.call

@@ -1,7 +1,7 @@
 use Rattle.std.proofs.Common.{refl}
 use Rattle.std.proofs.lemmas.Result.{on_ok_weaker}
 use Rattle.exporter.specs.State.{Export}
-use Rattle.store_api.specs.Crossing.{to_grant}
+use Rattle.store_api.specs.Calls.{to_grant}
 use Rattle.scenario_replay.specs.Actions.{started_by}
 use Rattle.scenario_replay.proofs.Remotes.{asked_exporter, started_same}
 use Rattle.scenario_replay.proofs.remote.Remote.start.Goals as goal
