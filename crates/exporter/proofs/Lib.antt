@@ -6,5 +6,4 @@ pub mod Marks
 pub mod Histories
 pub mod Exports
 pub mod Exact
-pub mod CallerLemmas
-pub mod Links
+pub mod Talking

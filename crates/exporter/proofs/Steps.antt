@@ -1,7 +1,5 @@
--- Items written one after another, and what calls keep.
-use Rattle.std.proofs.Common.{◌≡◌, ℕ, zero, suc, ◌-◌, List, [], ◌∷◌, length, drop, refl, subst, true, false, cond, is_some, arith}
-use Rattle.store_api.specs.Meaning.{Meaning}
-use Rattle.exporter.specs.Calls.{Writes, WritesAll}
+-- Items written one after another, and keys that wait.
+use Rattle.std.proofs.Common.{◌≡◌, ℕ, zero, suc, ◌-◌, List, [], ◌∷◌, length, drop, refl, true, false, cond, is_some, arith}
 use Rattle.exporter.specs.State.{Export, after_item, after_items, waiting, with_key}
 
 pub after_more : (n : ℕ) (s : Export) → after_item (after_items n s) ≡ after_items (suc n) s
@@ -16,10 +14,6 @@ length_rest (x ∷ xs) = omega arith
 pub left_after : (n : ℕ) (s : Export) → length (after_items n s).queue ≡ length s.queue - n
 left_after zero s = omega arith
 left_after (suc n) s = omega (arith, left_after n (after_item s), length_rest s.queue)
-
-pub writes_more : (n : ℕ) (s : Export) (old mid new : Meaning) → WritesAll n s old mid → Writes (after_items n s) mid new → WritesAll (suc n) s old new
-writes_more zero s old mid new all one = (new, subst (λ (m : Meaning). Writes s m new) all one, refl)
-writes_more (suc n) s old mid new all one = (all.0, all.1, writes_more n (after_item s) all.0 mid new all.2 one)
 
 -- a key that waits more changes no cluster
 pub waiting_cluster : (key : List ℕ) (s : Export) → (waiting key s).cluster ≡ s.cluster

@@ -1,6 +1,5 @@
 pub mod State
 pub mod Kept
-pub mod Calls
-pub mod Crossed
+pub mod Talks
 pub mod Fields
 pub mod Runs

@@ -1,5 +1,5 @@
-ghost use Rattle.std.specs.Prelude.{◌≡◌, ◌<◌, ◌≤◌, ◌&&◌, ℕ, List, [], ◌∷◌, length, not, true, is_some, Some, None, Ok, IsTrue, IfOk, IfErr, OnOk, OnErr, IsOk};
-ghost use Rattle.std.specs.FinMap.{get};
+ghost use Rattle.std.specs.Prelude.{◌≡◌, ◌≢◌, ◌<◌, ◌≤◌, ◌&&◌, ℕ, List, [], ◌∷◌, length, not, true, is_some, Some, None, Err, IsTrue, IfOk, OnOk, OnErr};
+ghost use Rattle.std.specs.FinMap.{get, keys};
 ghost use Rattle.std.specs.List.{list_any};
 ghost use Rattle.key_paths.specs.Keys.{key_bytes};
 ghost use Rattle.key_paths.specs.Paths.{record_ranges};
@@ -7,12 +7,10 @@ ghost use Rattle.mesh_records.specs.Written.{text_of};
 ghost use Rattle.record_check.specs.Reading.{IsOfKind};
 ghost use Rattle.key_paths.specs.declared.hop.Hop.TheVariants.{State};
 ghost use Rattle.store_api.specs.History.{in_ranges};
-ghost use Rattle.store_api.specs.Contents.{after_grant};
-ghost use Rattle.store_api.specs.Calls.{to_commit, to_grant, to_keep_alive};
-ghost use Rattle.store_api.specs.Meaning.{Keeps, Makes};
-ghost use Rattle.exporter.specs.State.{IsExport, IsExported, after_declare, after_item, after_items, after_start, after_stop, after_withdraw, is_record, is_synced, new_export, next_ops, op_of, record_op, turns, waiting};
-ghost use Rattle.exporter.specs.Calls.{KeepsLease, Refuses, RefusesKeep, RefusesStart, StopsAt, Writes, WritesAll};
-ghost use Rattle.exporter.specs.Crossed.{Crosses, CrossesAll, CrossesOnce, CrossesUpTo, commits, ended};
+ghost use Rattle.store_api.specs.Calls.{Talked, on_store, to_commit, to_grant};
+ghost use Rattle.store_api.specs.Meaning.{Keeps};
+ghost use Rattle.exporter.specs.State.{IsExport, IsExported, after_declare, after_item, after_items, after_start, after_stop, after_withdraw, everything, is_record, is_synced, new_export, next_ops, op_of, record_op, turns, waiting};
+ghost use Rattle.exporter.specs.Talks.{StopsForMemory, WantedMemory, export_talk, fault_of, keep_talk, start_talk};
 
 use crate::declared::Declared;
 use crate::fault::ExportFault;
@@ -161,13 +159,9 @@ impl Exporter {
     /// records that wait in it, and its old lease is left to lapse. After `Lost` and `Memory` it is
     /// as before; a lost grant may have been made, and that lease lapses unused.
     pub fn start<S: Store>(&mut self, store: &mut S) -> Result<(), ExportFault>
-        ensures granted { OnOk result (Makes (S.meaning store.old) (S.meaning store.new) (after_grant self.old.seconds)) }
-        ensures started { OnOk result (self.new ≡ after_start (S.meaning store.new).contents.leases.last self.old) }
-        ensures refused { IfErr result (λ fault. RefusesStart fault self.old (S.meaning store.old) (S.meaning store.new)) }
+        ensures talk { result ≢ Err ExportFault.Memory → Talked (on_store S.meaning S.crossed) (start_talk self.old) store.old store.new (record { exporter = self.new; fault = fault_of result }) }
+        ensures memory { result ≡ Err ExportFault.Memory → WantedMemory S.meaning S.crossed (to_grant self.old.seconds) store.old store.new }
         ensures unchanged { OnErr result (self.new ≡ self.old) }
-
-        // One call, or none where memory is wanted before it.
-        ensures crossed { CrossesOnce S.meaning S.crossed (to_grant self.old.seconds) (ended result) store.old store.new }
 
         ensures keeps { Keeps (S.meaning store.old) (S.meaning store.new) }
         ensures named { S.name store.new ≡ S.name store.old }
@@ -176,9 +170,7 @@ impl Exporter {
         let queue = Queue::everything(self.alloc, &self.declared)?;
         match store.grant(self.alloc, self.seconds) {
             Ok(lease) => {
-                self.queue = queue;
-                self.lease = Some(lease);
-                self.marked = [false; 4];
+                self.begin(queue, lease);
                 Ok(())
             }
             Err(StoreFault::Lost) => Err(ExportFault::Lost),
@@ -208,12 +200,10 @@ impl Exporter {
         requires waiting { 0 < length self.old.queue }
         requires writable { (key : List ℕ) → (S.meaning store.old).writable key ≡ true }
 
-        ensures written { OnOk result (Writes self.old (S.meaning store.old) (S.meaning store.new)) }
+        ensures talk { result ≢ Err ExportFault.Memory → Talked (on_store S.meaning S.crossed) (export_talk 1 self.old) store.old store.new (record { exporter = self.new; fault = fault_of result }) }
+        ensures memory { result ≡ Err ExportFault.Memory → WantedMemory S.meaning S.crossed (to_commit (next_ops self.old)) store.old store.new }
         ensures after { OnOk result (self.new ≡ after_item self.old) }
-        ensures refused { IfErr result (λ fault. Refuses fault self.old self.new (S.meaning store.old) (S.meaning store.new)) }
-
-        // One call, or none where memory is wanted before it.
-        ensures crossed { CrossesOnce S.meaning S.crossed (to_commit (next_ops self.old)) (ended result) store.old store.new }
+        ensures unchanged { result ≡ Err ExportFault.Memory → self.new ≡ self.old }
 
         ensures keeps { Keeps (S.meaning store.old) (S.meaning store.new) }
         ensures named { S.name store.new ≡ S.name store.old }
@@ -241,16 +231,9 @@ impl Exporter {
 
         ensures done { IfOk result (λ exported. exported.done ≡ turns most self.old) }
         ensures left { IfOk result (λ exported. exported.left ≡ length self.new.queue) }
-        ensures written { OnOk result (WritesAll (turns most self.old) self.old (S.meaning store.old) (S.meaning store.new)) }
         ensures after { OnOk result (self.new ≡ after_items (turns most self.old) self.old) }
-        ensures refused { IfErr result (λ fault. StopsAt fault most self.old self.new (S.meaning store.old) (S.meaning store.new)) }
-
-        // No item, no call.
-        ensures idle { turns most self.old ≡ 0 → IsOk result × (store.new ≡ store.old) }
-
-        // One call for each item, and none behind the first that is refused.
-        ensures crossed { OnOk result (CrossesAll S.meaning S.crossed (commits (turns most self.old) self.old) store.old store.new) }
-        ensures crossed_up_to { IfErr result (λ fault. CrossesUpTo S.meaning S.crossed fault most self.old self.new store.old store.new) }
+        ensures talk { result ≢ Err ExportFault.Memory → Talked (on_store S.meaning S.crossed) (export_talk (turns most self.old) self.old) store.old store.new (record { exporter = self.new; fault = fault_of result }) }
+        ensures memory { result ≡ Err ExportFault.Memory → StopsForMemory S.meaning S.crossed most self.old self.new store.old store.new }
 
         ensures keeps { Keeps (S.meaning store.old) (S.meaning store.new) }
         ensures named { S.name store.new ≡ S.name store.old }
@@ -271,13 +254,7 @@ impl Exporter {
     /// `NoLease` exactly where the lease is not live in the store, and then the exporter is stopped.
     /// A lost call may have kept it alive. Takes no memory.
     pub fn keep<S: Store>(&mut self, store: &mut S) -> Result<(), ExportFault>
-        ensures stopped { self.old.lease ≡ None → (result ≡ Ok tt) × (store.new ≡ store.old) }
-        ensures kept { OnOk result ((lease : ℕ) → self.old.lease ≡ Some lease → KeepsLease lease (S.meaning store.old) (S.meaning store.new)) }
-        ensures unchanged { OnOk result (self.new ≡ self.old) }
-        ensures refused { IfErr result (λ fault. RefusesKeep fault self.old self.new (S.meaning store.old) (S.meaning store.new)) }
-
-        // One call.
-        ensures crossed { (lease : ℕ) → self.old.lease ≡ Some lease → Crosses S.meaning S.crossed (to_keep_alive lease) (ended result) store.old store.new }
+        ensures talk { Talked (on_store S.meaning S.crossed) (keep_talk self.old) store.old store.new (record { exporter = self.new; fault = fault_of result }) }
 
         ensures keeps { Keeps (S.meaning store.old) (S.meaning store.new) }
         ensures named { S.name store.new ≡ S.name store.old }
@@ -291,6 +268,16 @@ impl Exporter {
             Err(StoreFault::NoLease { lease: _ }) => Err(self.lose_lease(lease)),
             Err(_) => Err(ExportFault::Lost),
         }
+    }
+
+    // Everything waits, under this lease.
+    fn begin(&mut self, queue: Queue, lease: u64)
+        requires { queue ≡ everything (keys self.old.declared) }
+        ensures { self.new ≡ after_start lease self.old }
+    {
+        self.queue = queue;
+        self.lease = Some(lease);
+        self.marked = [false; 4];
     }
 
     // The lease is not live: nothing is exported any more.

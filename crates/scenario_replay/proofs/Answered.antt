@@ -1,23 +1,23 @@
 -- Calls straight on one of the stores, and the program after them.
-use Rattle.std.proofs.Common.{◌≡◌, ℕ, suc, ◌+◌, ◌-◌, ◌≤◌, ◌<◌, List, [], ◌∷◌, length, map, get_or, Result, Ok, Err, OnOk, refl, ap, sym, ◌∙◌, subst, arith}
+use Rattle.std.proofs.Common.{◌≡◌, ℕ, suc, ◌+◌, ◌-◌, ◌≤◌, ◌<◌, List, [], ◌∷◌, length, map, get_or, Result, OnOk, refl, ap, sym, ◌∙◌, subst, arith}
 use Rattle.std.proofs.Math.ListN.{set}
 use Rattle.std.proofs.lemmas.List.{map-set}
+use Rattle.flaky_link.specs.Crossed.{IsAsked}
 use Rattle.scenario_lang.specs.declared.scenario.RawWrite.{RawWrite}
 use Rattle.store_api.specs.Contents.{after_compact}
-use Rattle.store_api.specs.Calls.{Request, Ending, to_commit, to_tick}
-use Rattle.store_api.specs.Meaning.{Keeps, Meaning}
-use Rattle.store_api.specs.Meaning as store
-use Rattle.scenario_replay.specs.Actions.{changes, compacted, raw_op, tick_from, write_raw}
-use Rattle.scenario_replay.specs.Asking.{Step, ask, done}
+use Rattle.store_api.specs.Calls.{Request, Called, Answers, to_commit, to_compact, to_tick}
+use Rattle.store_api.specs.Meaning.{Meaning}
+use Rattle.scenario_replay.specs.Actions.{compact, raw_op, tick_from, write_raw}
+use Rattle.scenario_replay.specs.Asking.{Step, ask, ask_surely, done}
 use Rattle.scenario_replay.specs.Goes.{Goes, Leads}
 use Rattle.scenario_replay.specs.Shown.{HasWorld, Makes}
-use Rattle.scenario_replay.specs.Took.{Answered}
-use Rattle.scenario_replay.specs.World.{World, contents_at, store_of}
+use Rattle.scenario_replay.specs.World.{World, store_of}
 use Rattle.scenario_replay.specs.declared.replay.Replay.{Replay}
-use Rattle.scenario_replay.proofs.Asked.{on_ok}
-use Rattle.scenario_replay.proofs.Calls.{Beside, IsSteady, asks, found_is, made_tallies}
+use Rattle.scenario_replay.proofs.Talks.{on_ok}
+use Rattle.scenario_replay.proofs.Calls.{Beside, asks, asks_surely}
+use Rattle.scenario_replay.proofs.Links.{some_heard}
 use Rattle.scenario_replay.proofs.Runs.{Goes-as, Goes-none, Goes-trans, Goes-weaken}
-use Rattle.scenario_replay.proofs.Worlds.{beside_has, element_at, place_open, place_within, remotes_many, steady_commit, steady_tick}
+use Rattle.scenario_replay.proofs.Worlds.{beside_has, element_at, place_open, place_within, remotes_many}
 
 module _ (w : World) (replay : Replay) (stores : List Meaning) (has : HasWorld w replay stores) (place : ℕ) (le : place ≤ length replay.remotes.items) (d m : Meaning) where
   abbrev old : Meaning
@@ -26,29 +26,18 @@ module _ (w : World) (replay : Replay) (stores : List Meaning) (has : HasWorld w
   abbrev after : List Meaning
   after = set stores place m
 
-  pub goes_answered : {X : Type 0} (request : Request) (next : Ending → Step X) → IsSteady request → (a : Answered request old m) → Goes (ask place request next) (next a.end) w stores after (λ n. HasWorld n replay after)
-  goes_answered request next steady a =
-      Goes-weaken (ask place request next) (next a.end) w stores after (Beside place m.contents w) (λ n. HasWorld n replay after) (λ n b. beside_has w replay stores has place le n d m a.keeps b)
-      (asks stores place d m (place_within w replay stores has place le) w has.contents (place_open w replay stores has place le d).quiet a.keeps request next steady a.end a.told a.does)
+  -- a call, and then whatever follows it
+  pub goes_answered : {X : Type 0} (request : Request) (rest : Step X) → IsAsked request old m → Goes (ask place request (λ heard. rest)) rest w stores after (λ n. HasWorld n replay after)
+  goes_answered request rest a =
+      let some = some_heard a.end m.contents a.told in
+      Goes-weaken (ask place request (λ heard. rest)) rest w stores after (Beside place m.contents w) (λ n. HasWorld n replay after) (λ n b. beside_has w replay stores has place le n d m a.called.keeps b)
+      (asks stores place d m (place_within w replay stores has place le) w has.contents (place_open w replay stores has place le d).quiet a.called.keeps request (λ heard. rest) a.end some.0 a.called some.1)
 
   -- a compaction is always made
-  pub leads_compacted : (upto : ℕ) → store.Makes old m (after_compact upto) → Keeps old m → Leads (changes (compacted place upto)) w stores after (λ n. HasWorld n replay after)
-  leads_compacted upto makes keeps =
-      let within = place_within w replay stores has place le in
-      let quiet = (place_open w replay stores has place le d).quiet in
-      let n = compacted place upto w in
-      let left : m.contents ≡ after_compact upto (contents_at w place) = makes.left ∙ ap (after_compact upto) (found_is stores place d m within w has.contents quiet keeps makes.found makes.finds) in
-      let stores_are : n.stores ≡ set w.stores place m.contents = ap (set w.stores place) (sym left) in
-      let shows = beside_has w replay stores has place le n d m keeps (record { local = refl; stores = stores_are; remotes = refl; reports = refl; text = refl }) in
-      record {
-        used = [];
-        new = n;
-        goes = λ more. refl;
-        stores = shows.contents;
-        lost = omega arith;
-        tallies = made_tallies stores place d m within w has.contents quiet keeps n refl refl (omega (arith, makes.counts.calls));
-        shows = shows;
-      }
+  pub leads_compacted : (upto : ℕ) → Called (to_compact upto) Answers old m → Leads (compact place upto) w stores after (λ n. HasWorld n replay after)
+  leads_compacted upto called =
+      Goes-weaken (ask_surely place (to_compact upto)) done w stores after (Beside place m.contents w) (λ n. HasWorld n replay after) (λ n b. beside_has w replay stores has place le n d m called.keeps b)
+      (asks_surely stores place d m (place_within w replay stores has place le) w has.contents (place_open w replay stores has place le d).quiet called.keeps (after_compact upto) called)
 
 -- over the stores as the code has them
 module _ {S : Type 0} (meaning : S → Meaning) (stores : List S) (replay : Replay) (place : ℕ) (le : place ≤ length replay.remotes.items) (d s : S) where
@@ -59,31 +48,29 @@ module _ {S : Type 0} (meaning : S → Meaning) (stores : List S) (replay : Repl
   then_ = map meaning (set stores place s)
 
   -- one call, and then whatever follows it
-  pub goes_on_answered : {X : Type 0} (request : Request) (rest : Step X) → IsSteady request → Answered request before (meaning s) → (w : World) → HasWorld w replay (map meaning stores)
-      → Goes (ask place request (λ end. rest)) rest w (map meaning stores) then_ (λ n. HasWorld n replay then_)
-  goes_on_answered request rest steady answered w has =
-      subst (λ (ms : List Meaning). Goes (ask place request (λ end. rest)) rest w (map meaning stores) ms (λ n. HasWorld n replay ms)) (sym (map-set meaning stores place s))
-      (goes_answered w replay (map meaning stores) has place le (meaning d) (meaning s) request (λ end. rest) steady
-      (subst (λ (m : Meaning). Answered request m (meaning s)) (element_at meaning stores replay place le d w has) answered))
-
-  pub makes_compacted : (upto : ℕ) → store.Makes before (meaning s) (after_compact upto) → Keeps before (meaning s) → Makes (changes (compacted place upto)) replay replay (map meaning stores) then_
-  makes_compacted upto makes keeps w has =
-      subst (λ (ms : List Meaning). Leads (changes (compacted place upto)) w (map meaning stores) ms (λ n. HasWorld n replay ms)) (sym (map-set meaning stores place s))
-      (leads_compacted w replay (map meaning stores) has place le (meaning d) (meaning s) upto
-      (subst (λ (m : Meaning). store.Makes m (meaning s) (after_compact upto)) (element_at meaning stores replay place le d w has) makes)
-      (subst (λ (m : Meaning). Keeps m (meaning s)) (element_at meaning stores replay place le d w has) keeps))
+  pub goes_on_answered : {X : Type 0} (request : Request) (rest : Step X) → IsAsked request before (meaning s) → (w : World) → HasWorld w replay (map meaning stores)
+      → Goes (ask place request (λ heard. rest)) rest w (map meaning stores) then_ (λ n. HasWorld n replay then_)
+  goes_on_answered request rest answered w has =
+      subst (λ (ms : List Meaning). Goes (ask place request (λ heard. rest)) rest w (map meaning stores) ms (λ n. HasWorld n replay ms)) (sym (map-set meaning stores place s))
+      (goes_answered w replay (map meaning stores) has place le (meaning d) (meaning s) request rest
+      (subst (λ (m : Meaning). IsAsked request m (meaning s)) (element_at meaning stores replay place le d w has) answered))
 
   abbrev Compacts : ℕ → Type 0
-  Compacts upto = Makes (changes (compacted place upto)) replay replay (map meaning stores) then_
+  Compacts upto = Makes (compact place upto) replay replay (map meaning stores) then_
 
-  pub done_compacted : {T F : Type 0} (upto : ℕ) (result : Result T F) → OnOk result (store.Makes before (meaning s) (after_compact upto)) → Keeps before (meaning s) → OnOk result (Compacts upto)
-  done_compacted upto (Ok value) makes keeps = makes_compacted upto makes keeps
-  done_compacted upto (Err fault) makes keeps = tt
+  makes_compacted : (upto : ℕ) → Called (to_compact upto) Answers before (meaning s) → Compacts upto
+  makes_compacted upto called w has =
+      subst (λ (ms : List Meaning). Leads (compact place upto) w (map meaning stores) ms (λ n. HasWorld n replay ms)) (sym (map-set meaning stores place s))
+      (leads_compacted w replay (map meaning stores) has place le (meaning d) (meaning s) upto
+      (subst (λ (m : Meaning). Called (to_compact upto) Answers m (meaning s)) (element_at meaning stores replay place le d w has) called))
+
+  pub done_compacted : {T F : Type 0} (upto : ℕ) (result : Result T F) → OnOk result (Called (to_compact upto) Answers before (meaning s)) → OnOk result (Compacts upto)
+  done_compacted upto result says = on_ok result (Called (to_compact upto) Answers before (meaning s)) (Compacts upto) (makes_compacted upto) says
 
 -- a write without a lease
 module _ {S : Type 0} (meaning : S → Meaning) (stores : List S) (replay : Replay) (remote : ℕ) (lt : remote < length replay.remotes.items) (d s : S) (write : RawWrite) where
   abbrev Writes : Type 0
-  Writes = Answered (to_commit (raw_op write ∷ [])) (meaning (get_or stores (store_of remote) d)) (meaning s)
+  Writes = IsAsked (to_commit (raw_op write ∷ [])) (meaning (get_or stores (store_of remote) d)) (meaning s)
 
   abbrev Wrote : Type 0
   Wrote = Makes (write_raw remote write) replay replay (map meaning stores) (map meaning (set stores (store_of remote) s))
@@ -92,8 +79,8 @@ module _ {S : Type 0} (meaning : S → Meaning) (stores : List S) (replay : Repl
   makes_written answered w has =
       let after = map meaning (set stores (store_of remote) s) in
       let request = to_commit (raw_op write ∷ []) in
-      Goes-as (ask (store_of remote) request (λ end. done)) (write_raw remote write) done done w (map meaning stores) after (λ n. HasWorld n replay after) (λ os. refl) (λ n os. refl)
-      (goes_on_answered meaning stores replay (store_of remote) (omega arith) d s request done (steady_commit (raw_op write ∷ [])) answered w has)
+      Goes-as (ask (store_of remote) request (λ heard. done)) (write_raw remote write) done done w (map meaning stores) after (λ n. HasWorld n replay after) (λ os. refl) (λ n os. refl)
+      (goes_on_answered meaning stores replay (store_of remote) (omega arith) d s request done answered w has)
 
   pub done_written : {T F : Type 0} (result : Result T F) → OnOk result Writes → OnOk result Wrote
   done_written result says = on_ok result Writes Wrote makes_written says
@@ -106,7 +93,7 @@ ticked_none meaning stores replay many seconds w has =
     subst (λ (k : ℕ). Goes (tick_from 0 many seconds) (tick_from 0 k seconds) w (map meaning stores) (map meaning stores) (λ n. HasWorld n replay (map meaning stores))) (sym e)
     (Goes-none (tick_from 0 many seconds) w (map meaning stores) (λ n. HasWorld n replay (map meaning stores)) has.contents has)
 
-pub ticked_more : {S : Type 0} (meaning : S → Meaning) (first stores : List S) (replay : Replay) (place many seconds : ℕ) (d s : S) → place ≤ length replay.remotes.items → place < many → Answered (to_tick seconds) (meaning (get_or stores place d)) (meaning s) → (w : World)
+pub ticked_more : {S : Type 0} (meaning : S → Meaning) (first stores : List S) (replay : Replay) (place many seconds : ℕ) (d s : S) → place ≤ length replay.remotes.items → place < many → IsAsked (to_tick seconds) (meaning (get_or stores place d)) (meaning s) → (w : World)
     → Goes (tick_from 0 many seconds) (tick_from place (many - place) seconds) w (map meaning first) (map meaning stores) (λ n. HasWorld n replay (map meaning stores))
     → Goes (tick_from 0 many seconds) (tick_from (place + 1) (many - (place + 1)) seconds) w (map meaning first) (map meaning (set stores place s)) (λ n. HasWorld n replay (map meaning (set stores place s)))
 ticked_more meaning first stores replay place many seconds d s le lt answered w front =
@@ -116,8 +103,8 @@ ticked_more meaning first stores replay place many seconds d s le lt answered w 
     let e : many - place ≡ suc (many - (place + 1)) = omega arith in
     Goes-trans (tick_from 0 many seconds) (tick_from place (many - place) seconds) rest w (map meaning first) now after (λ n. HasWorld n replay now) (λ n. HasWorld n replay after) front
     (λ v shows has.
-    Goes-as (ask place (to_tick seconds) (λ end. rest)) (tick_from place (many - place) seconds) rest rest v now after (λ n. HasWorld n replay after) (λ os. ap (λ (k : ℕ). tick_from place k seconds v os) e) (λ n os. refl)
-    (goes_on_answered meaning stores replay place le d s (to_tick seconds) rest (steady_tick seconds) answered v has))
+    Goes-as (ask place (to_tick seconds) (λ heard. rest)) (tick_from place (many - place) seconds) rest rest v now after (λ n. HasWorld n replay after) (λ os. ap (λ (k : ℕ). tick_from place k seconds v os) e) (λ n os. refl)
+    (goes_on_answered meaning stores replay place le d s (to_tick seconds) rest answered v has))
 
 pub ticked_all : {S : Type 0} (meaning : S → Meaning) (first stores : List S) (replay : Replay) (place many seconds : ℕ) → many ≤ place → many ≡ length replay.remotes.items + 1 → (w : World) → HasWorld w replay (map meaning first)
     → Goes (tick_from 0 many seconds) (tick_from place (many - place) seconds) w (map meaning first) (map meaning stores) (λ n. HasWorld n replay (map meaning stores))

@@ -1,21 +1,16 @@
 -- One call on one of the stores.
-use Rattle.std.proofs.Common.{◌≡◌, ◌≢◌, ℕ, ◌+◌, ◌<◌, ◌≤◌, ◌⊎◌, List, [], ◌∷◌, length, map, get_or, refl, ap, sym, ◌∙◌, subst, arith, true, false, inl, inr}
+use Rattle.std.proofs.Common.{◌≡◌, ◌≢◌, ℕ, ◌+◌, ◌<◌, ◌≤◌, ◌⊎◌, List, [], ◌∷◌, length, map, get_or, refl, ap, sym, ◌∙◌, subst, arith, true, false, if◌then◌else◌, inl, inr}
 use Rattle.std.proofs.Math.ListN.{set}
 use Rattle.std.proofs.Math.Seq.{map-set_same}
 use Rattle.std.proofs.lemmas.List.{map-set, get_or-set_same, get_or-set_other, get_or-map, length-map}
 use Rattle.std.proofs.lemmas.Bool.Decides.{eqb_tells}
-use Rattle.exporter.specs.Crossed as crossed
+use Rattle.std.proofs.lemmas.List.Elements.{All-get_or, All-set}
 use Rattle.store_api.specs.Contents.{Contents, empty_contents}
-use Rattle.store_api.specs.Calls.{Request, Ending, Answers, Refuses, WantsMemory, IsLost, in_turn}
-use Rattle.store_api.specs.Meaning.{Meaning, Keeps, MayMake, Counts, CountsNot, Finds, Call}
-use Rattle.scenario_replay.specs.Asking.{Made, LostBefore, LostAfter, Step, ask, counted, end_of, made_of}
-use Rattle.scenario_replay.specs.Goes.{Goes, Tallies, occurrences}
-use Rattle.scenario_replay.specs.Took.{IsTold}
+use Rattle.store_api.specs.Calls.{Request, Ending, Answers, Refuses, WantsMemory, IsLost, Called, IsServed, Heard, Answered, Refused, Missed, Hears, plain}
+use Rattle.store_api.specs.Meaning.{Meaning, Keeps, Counts, CountsNot, Finds, Call}
+use Rattle.scenario_replay.specs.Asking.{Number, Next, Given, Made, LostBefore, LostAfter, Step, answer_of, ask, ask_surely, counted, done, made_of, number_over}
+use Rattle.scenario_replay.specs.Goes.{Goes, NumberInTurn, Tallies, occurrences}
 use Rattle.scenario_replay.specs.World.{World, contents_at, at_store}
-
--- the effect of a call does not change whether it is refused
-abbrev pub IsSteady : Request → Type 0
-IsSteady request = (c : Contents) → request.is_refused (in_turn request c) ≡ request.is_refused c
 
 -- a world whose store at the place has these contents, and which is else as before but for the counts of
 -- calls
@@ -87,53 +82,119 @@ module _ (stores : List Meaning) (place : ℕ) (d new : Meaning) (lt : place < l
       asked = λ i. rw asked (capped (λ m. m.calls) w.asked most i);
     }
 
-    module _ {X : Type 0} (request : Request) (next : Ending → Step X) where
-      -- the store made the call, and ended it so
-      made : (end : Ending) → end_of request (contents_at w place) ≡ end → new.contents ≡ made_of request (contents_at w place) → new.calls ≤ old.calls + 1 → Goes (ask place request next) (next end) w stores (set stores place new) (Beside place new.contents w)
-      made end ends left most = record {
-        used = Made ∷ [];
-        new = counted place (at_store place (made_of request) w);
-        goes = λ more. ap (λ (e : Ending). next e (counted place (at_store place (made_of request) w)) more) ends;
+    -- stores that number in turn still do
+    pub still_in_turn : NumberInTurn stores → NumberInTurn (set stores place new)
+    still_in_turn numbers = All-set (λ (m : Meaning). m.numbers ≡ true) stores place new (keeps.numbers ∙ All-get_or (λ (m : Meaning). m.numbers ≡ true) stores place d lt numbers) numbers
+
+    in_turn_here : NumberInTurn stores → old.numbers ≡ true
+    in_turn_here numbers = All-get_or (λ (m : Meaning). m.numbers ≡ true) stores place d lt numbers
+
+    -- the number that was picked, as an outcome has it
+    abbrev pick : ℕ → Number
+    pick n = if old.numbers then Next else Given n
+
+    pick_next : (n : ℕ) → old.numbers ≡ true → pick n ≡ Next
+    pick_next n numbers = rw numbers refl
+
+    picks : (n : ℕ) (c : Contents) → (old.numbers ≡ true → n ≡ c.leases.last + 1) → number_over (pick n) c ≡ n
+    picks n c in_order = elim old.numbers as (λ b. (b ≡ true → n ≡ c.leases.last + 1) → number_over (if b then Next else Given n) c ≡ n) [ true ↦ (λ order. sym (order refl)) | false ↦ (λ order. refl) ] in_order
+
+    module _ {X : Type 0} (request : Request) (next : Heard → Step X) where
+      abbrev here : Contents
+      here = contents_at w place
+
+      abbrev Asked : Heard → Type 0
+      Asked heard = Goes (ask place request next) (next heard) w stores (set stores place new) (Beside place new.contents w)
+
+      -- the store made the call or refused it, and this was heard
+      made : (number : Number) (heard : Heard) → (old.numbers ≡ true → number ≡ Next) → new.contents ≡ made_of request number here → answer_of request number here ≡ heard → new.calls ≤ old.calls + 1 → Asked heard
+      made number heard in_turn left answer most = record {
+        used = Made number ∷ [];
+        new = counted place (at_store place (made_of request number) w);
+        goes = λ more. ap (λ (h : Heard). next h (counted place (at_store place (made_of request number) w)) more) answer;
         stores = shows_new _ left;
         lost = omega arith;
+        asked = omega arith;
         tallies = made_tallies _ refl refl most;
+        in_turn = λ numbers. ((in_turn (in_turn_here numbers), tt), still_in_turn numbers);
         shows = record { local = refl; stores = ap (set w.stores place) (sym left); remotes = refl; reports = refl; text = refl };
       }
 
-      -- the store lost the call
-      lost : MayMake old new (in_turn request) → Goes (ask place request next) (next IsLost) w stores (set stores place new) (Beside place new.contents w)
-      lost may = elim may.whole [
-        | inl none ↦ record {
-          used = LostBefore ∷ [];
-          new = record w { asked = place ∷ w.asked; lost = place ∷ w.lost };
-          goes = λ more. refl;
-          stores = shows_same (none ∙ found_is may.found may.finds);
-          lost = omega arith;
-          tallies = lost_tallies _ refl refl may.cause (one_at_most may.counts);
-          shows = record { local = refl; stores = w_is (none ∙ found_is may.found may.finds); remotes = refl; reports = refl; text = refl };
-        }
-        | inr all ↦ record {
-          used = LostAfter ∷ [];
-          new = record (at_store place (in_turn request) w) { asked = place ∷ w.asked; lost = place ∷ w.lost };
-          goes = λ more. refl;
-          stores = shows_new _ (all ∙ ap (in_turn request) (found_is may.found may.finds));
-          lost = omega arith;
-          tallies = lost_tallies _ refl refl may.cause (one_at_most may.counts);
-          shows = record { local = refl; stores = ap (set w.stores place) (sym (all ∙ ap (in_turn request) (found_is may.found may.finds))); remotes = refl; reports = refl; text = refl };
-        }
-      ]
+      -- the store lost the call without an effect
+      lost_before : old.faults < new.faults → new.contents ≡ here → new.calls ≤ old.calls + 1 → Asked Missed
+      lost_before cause left most = record {
+        used = LostBefore ∷ [];
+        new = record w { asked = place ∷ w.asked; lost = place ∷ w.lost };
+        goes = λ more. refl;
+        stores = shows_same left;
+        lost = omega arith;
+        asked = omega arith;
+        tallies = lost_tallies _ refl refl cause most;
+        in_turn = λ numbers. (tt, still_in_turn numbers);
+        shows = record { local = refl; stores = w_is left; remotes = refl; reports = refl; text = refl };
+      }
 
-      -- each call that did not want memory
-      pub asks : IsSteady request → (end : Ending) → IsTold end → crossed.Does request end old new → Goes (ask place request next) (next end) w stores (set stores place new) (Beside place new.contents w)
-      asks steady Answers told does =
-          let m = does.1 in
-          let found = found_is m.found m.finds in
-          let live : request.is_refused (contents_at w place) ≡ false = subst (λ (c : Contents). request.is_refused c ≡ false) found (sym (steady m.found) ∙ ap request.is_refused (sym m.left) ∙ does.0) in
-          made Answers (rw live refl) (m.left ∙ ap (in_turn request) found ∙ rw live refl) (one_more m.counts)
-      asks steady Refuses told does =
-          let m = does.1 in
-          let found = found_is m.found m.finds in
-          let dead : request.is_refused (contents_at w place) ≡ true = subst (λ (c : Contents). request.is_refused c ≡ true) (m.left ∙ found) does.0 in
-          made Refuses (rw dead refl) (m.left ∙ found ∙ rw dead refl) (one_more m.counts)
-      asks steady WantsMemory told does = absurd told
-      asks steady IsLost told does = lost does
+      -- or with its effect
+      lost_after : (number : Number) → (old.numbers ≡ true → number ≡ Next) → old.faults < new.faults → new.contents ≡ made_of request number here → new.calls ≤ old.calls + 1 → Asked Missed
+      lost_after number in_turn cause left most = record {
+        used = LostAfter number ∷ [];
+        new = record (at_store place (made_of request number) w) { asked = place ∷ w.asked; lost = place ∷ w.lost };
+        goes = λ more. refl;
+        stores = shows_new _ left;
+        lost = omega arith;
+        asked = omega arith;
+        tallies = lost_tallies _ refl refl cause most;
+        in_turn = λ numbers. ((in_turn (in_turn_here numbers), tt), still_in_turn numbers);
+        shows = record { local = refl; stores = ap (set w.stores place) (sym left); remotes = refl; reports = refl; text = refl };
+      }
+
+      -- a request that was served, over the contents that the world has
+      module _ (number : ℕ) (found : Contents) (served : IsServed request number found new.contents) (is : found ≡ here) (in_order : old.numbers ≡ true → number ≡ found.leases.last + 1) where
+        live : request.is_refused here ≡ false
+        live = subst (λ (c : Contents). request.is_refused c ≡ false) is served.serves
+
+        left : new.contents ≡ request.effect (number_over (pick number) here) here
+        left = served.effect ∙ ap (request.effect number) is
+            ∙ ap (λ (n : ℕ). request.effect n here) (sym (picks number here (λ numbers. in_order numbers ∙ ap (λ (c : Contents). c.leases.last + 1) is)))
+
+        left_made : new.contents ≡ made_of request (pick number) here
+        left_made = rw live left
+
+        answered : answer_of request (pick number) here ≡ Answered new.contents
+        answered = rw live (ap Answered (sym left))
+
+      -- each call of which something was heard
+      pub asks : (end : Ending) (heard : Heard) → Called request end old new → Hears end new.contents heard → Asked heard
+      asks Answers heard call hears =
+          let is = found_is call.found call.finds in
+          made (pick call.picked) heard (pick_next call.picked) (left_made call.picked call.found call.says is call.in_order) (answered call.picked call.found call.says is call.in_order ∙ sym hears) (one_more call.counts)
+      asks Refuses heard call hears =
+          let is = found_is call.found call.finds in
+          let dead : request.is_refused here ≡ true = subst (λ (c : Contents). request.is_refused c ≡ true) is call.says.0 in
+          let same : new.contents ≡ here = call.says.1 ∙ is in
+          made Next heard (λ numbers. refl) (rw dead same) (rw dead (ap Refused (sym same)) ∙ sym hears) (one_more call.counts)
+      asks WantsMemory heard call hears = absurd hears
+      asks IsLost heard call hears =
+          let is = found_is call.found call.finds in
+          let most = one_at_most call.counts in
+          subst Asked (sym hears)
+          (elim call.says [
+            | inl none ↦ lost_before (call.cause refl) (none ∙ is) most
+            | inr served ↦ lost_after (pick call.picked) (pick_next call.picked) (call.cause refl) (left_made call.picked call.found served is call.in_order) most
+          ])
+
+    -- a call that is neither lost nor refused
+    pub asks_surely : (effect : Contents → Contents) → Called (plain effect) Answers old new → Goes (ask_surely place (plain effect)) done w stores (set stores place new) (Beside place new.contents w)
+    asks_surely effect call =
+        let left : new.contents ≡ effect (contents_at w place) = call.says.effect ∙ ap effect (found_is call.found call.finds) in
+        record {
+          used = Made Next ∷ [];
+          new = counted place (at_store place effect w);
+          goes = λ more. refl;
+          stores = shows_new _ left;
+          lost = omega arith;
+          asked = omega arith;
+          tallies = made_tallies _ refl refl (one_more call.counts);
+          in_turn = λ numbers. ((refl, tt), still_in_turn numbers);
+          shows = record { local = refl; stores = ap (set w.stores place) (sym left); remotes = refl; reports = refl; text = refl };
+        }

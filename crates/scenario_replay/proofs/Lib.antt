@@ -1,11 +1,10 @@
 pub mod Acts
 pub mod Answered
-pub mod Asked
 pub mod Beginnings
 pub mod Calls
 pub mod Changes
 pub mod Counts
-pub mod Exported
+pub mod Talks
 pub mod Links
 pub mod NameBytes
 pub mod Places

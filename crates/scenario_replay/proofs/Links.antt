@@ -1,23 +1,21 @@
 -- One call on the store of a remote through a link.
-use Rattle.std.proofs.Common.{◌≡◌, ℕ, ◌<◌, List, [], length, map, get_or, refl, ap, sym, ◌∙◌, subst, arith, true, inl, inr, Bool, false, if◌then◌else◌}
+use Rattle.std.proofs.Common.{◌≡◌, ◌≢◌, ℕ, ◌<◌, List, [], length, map, get_or, refl, ap, sym, ◌∙◌, subst, arith, true, inl, inr}
 use Rattle.std.proofs.Math.ListN.{set}
 use Rattle.std.proofs.Math.Seq.{map-set_same}
 use Rattle.std.proofs.lemmas.List.{map-set, set-get_or}
-use Rattle.exporter.specs.Crossed as crossed
-use Rattle.flaky_link.specs.Crossed.{CrossedBy, MadeBehind}
-use Rattle.flaky_link.specs.Link.{Link, fate, failed, is_worn, linked, passed}
+use Rattle.flaky_link.specs.Crossed.{Crossed, CrossedBy, IsAsked}
+use Rattle.flaky_link.specs.Link.{Link, fate, failed, passed}
 use Rattle.flaky_link.specs.declared.state.Fate.{Fate}
 use Rattle.flaky_link.specs.declared.state.Fate.TheVariants.{Passes, FailsBefore, FailsAfter}
 use Rattle.scenario_lang.specs.declared.scenario.LinkName.{LinkName}
 use Rattle.scenario_lang.specs.declared.scenario.LinkName.TheVariants as link
 use Rattle.store_api.specs.Contents.{Contents}
-use Rattle.store_api.specs.Calls.{Request, Ending, Answers, Refuses, WantsMemory, IsLost, in_turn}
-use Rattle.store_api.specs.Meaning.{Meaning, Keeps, Makes, MayMake}
+use Rattle.store_api.specs.Calls.{Request, Ending, Answers, Refuses, WantsMemory, IsLost, Called, Heard, Answered, Refused, Missed, Hears}
+use Rattle.store_api.specs.Meaning.{Meaning}
 use Rattle.scenario_replay.specs.Asking.{Step, ask, ask_by, ask_through, at_link}
-use Rattle.scenario_replay.specs.Goes.{Goes}
-use Rattle.scenario_replay.specs.Took.{Called, IsTold}
+use Rattle.scenario_replay.specs.Goes.{Goes, NumberInTurn}
 use Rattle.scenario_replay.specs.World.{Remote, World, link_of, remote_at, store_of, with_link}
-use Rattle.scenario_replay.proofs.Calls.{Beside, IsSteady, asks}
+use Rattle.scenario_replay.proofs.Calls.{Beside, asks}
 use Rattle.scenario_replay.proofs.Runs.{Goes-as, Goes-from, Goes-weaken}
 
 -- A world whose remote is this one and whose store has these contents, and which is else as before but for
@@ -40,60 +38,29 @@ replaced link.Agent change left r e = rw e refl
 replaced link.Remote change left r e = refl
 replaced link.Local change left r e = refl
 
--- a link that let a call pass has failed none
-passed_by : (b : Bool) (l other : Link) → other.faults ≡ l.faults → (if b then l else other).faults ≡ l.faults
-passed_by true l other e = refl
-passed_by false l other e = e
+-- something is heard of a call that did not want memory
+pub some_heard : (end : Ending) (c : Contents) → end ≢ WantsMemory → (heard : Heard) × Hears end c heard
+some_heard Answers c told = (Answered c, refl)
+some_heard Refuses c told = (Refused c, refl)
+some_heard WantsMemory c told = absurd (told refl)
+some_heard IsLost c told = (Missed, refl)
 
-passed_faults : (l : Link) → (passed l).faults ≡ l.faults
-passed_faults l = passed_by (is_worn l) l _ refl
-
--- what a call did through a link that let it pass is what it did to the store
-keeps_behind : (l l' : Link) (m m' : Meaning) → l'.faults ≡ l.faults → Keeps (linked l m) (linked l' m') → Keeps m m'
-keeps_behind l l' m m' same k = record { history = k.history; faults = omega (arith, k.faults, same); quiet = k.quiet; numbers = k.numbers; writable = k.writable }
-
-makes_behind : (l l' : Link) (m m' : Meaning) (effect : Contents → Contents) → Makes (linked l m) (linked l' m') effect → Makes m m' effect
-makes_behind l l' m m' effect x = record {
-  found = x.found;
-  finds = record { later = x.finds.later; compacted = x.finds.compacted; alone = x.finds.alone };
-  left = x.left;
-  counts = record { calls = x.counts.calls; told = x.counts.told };
-}
-
-may_make_behind : (l l' : Link) (m m' : Meaning) (effect : Contents → Contents) → l'.faults ≡ l.faults → MayMake (linked l m) (linked l' m') effect → MayMake m m' effect
-may_make_behind l l' m m' effect same x = record {
-  found = x.found;
-  finds = record { later = x.finds.later; compacted = x.finds.compacted; alone = x.finds.alone };
-  whole = x.whole;
-  counts = elim x.counts [
-    | inl c ↦ inl (record { calls = c.calls; told = c.told })
-    | inr c ↦ inr (record { calls = c.calls; told = c.told })
-  ];
-  cause = omega (arith, x.cause, same);
-}
-
-does_behind : (request : Request) (end : Ending) (l l' : Link) (m m' : Meaning) → l'.faults ≡ l.faults → crossed.Does request end (linked l m) (linked l' m') → crossed.Does request end m m'
-does_behind request Answers l l' m m' same d = (d.0, makes_behind l l' m m' (in_turn request) d.1)
-does_behind request Refuses l l' m m' same d = (d.0, makes_behind l l' m m' (λ c. c) d.1)
-does_behind request WantsMemory l l' m m' same d = makes_behind l l' m m' (λ c. c) d
-does_behind request IsLost l l' m m' same d = may_make_behind l l' m m' (in_turn request) same d
-
-module _ (link : LinkName) (remote : ℕ) (request : Request) (steady : IsSteady request) (stores : List Meaning) (d new : Meaning) (lt : store_of remote < length stores) (w : World) (shows : w.stores ≡ map (λ (m : Meaning). m.contents) stores) where
+module _ (link : LinkName) (remote : ℕ) (request : Request) (stores : List Meaning) (d new : Meaning) (lt : store_of remote < length stores) (w : World) (shows : w.stores ≡ map (λ (m : Meaning). m.contents) stores) where
   abbrev old : Meaning
   old = get_or stores (store_of remote) d
 
   abbrev before : Link
   before = link_of link (remote_at w remote)
 
-  module _ (quiet : old.quiet ≡ true) {X : Type 0} (next : Ending → Step X) (left : Link) where
+  module _ (quiet : old.quiet ≡ true) {X : Type 0} (next : Heard → Step X) (left : Link) where
     -- a call that reached the store, from the world whose link is changed already
-    reached : (change : Link → Link) (goes_on : Ending → Step X) (end : Ending) → left ≡ change before → Keeps old new → IsTold end → crossed.Does request end old new
-        → Goes (λ v. ask (store_of remote) request goes_on (at_link link remote change v)) (goes_on end) w stores (set stores (store_of remote) new) (Went link remote left new.contents w)
-    reached change goes_on end e keeps told does =
-        Goes-from (λ v. ask (store_of remote) request goes_on (at_link link remote change v)) (ask (store_of remote) request goes_on) (goes_on end) w (at_link link remote change w) stores (set stores (store_of remote) new) (Went link remote left new.contents w) refl refl (λ os. refl)
-        (Goes-weaken (ask (store_of remote) request goes_on) (goes_on end) (at_link link remote change w) stores (set stores (store_of remote) new) (Beside (store_of remote) new.contents (at_link link remote change w)) (Went link remote left new.contents w)
+    reached : (change : Link → Link) (goes_on : Heard → Step X) (end : Ending) (heard : Heard) → left ≡ change before → Called request end old new → Hears end new.contents heard
+        → Goes (λ v. ask (store_of remote) request goes_on (at_link link remote change v)) (goes_on heard) w stores (set stores (store_of remote) new) (Went link remote left new.contents w)
+    reached change goes_on end heard e called hears =
+        Goes-from (λ v. ask (store_of remote) request goes_on (at_link link remote change v)) (ask (store_of remote) request goes_on) (goes_on heard) w (at_link link remote change w) stores (set stores (store_of remote) new) (Went link remote left new.contents w) refl refl (λ os. refl)
+        (Goes-weaken (ask (store_of remote) request goes_on) (goes_on heard) (at_link link remote change w) stores (set stores (store_of remote) new) (Beside (store_of remote) new.contents (at_link link remote change w)) (Went link remote left new.contents w)
         (λ n b. record { local = b.local; stores = b.stores; remotes = b.remotes ∙ ap (set w.remotes remote) (replaced link change left (remote_at w remote) e); reports = b.reports; text = b.text })
-        (asks stores (store_of remote) d new lt (at_link link remote change w) shows quiet keeps request goes_on steady end told does))
+        (asks stores (store_of remote) d new lt (at_link link remote change w) shows quiet called.keeps request goes_on end heard called hears))
 
     -- a store that no call reached is as before
     sets : new ≡ old → set stores (store_of remote) new ≡ stores
@@ -106,38 +73,38 @@ module _ (link : LinkName) (remote : ℕ) (request : Request) (steady : IsSteady
     left_is same = rw shows (sym (map-set_same (λ (m : Meaning). m.contents) stores (store_of remote) new d (ap (λ (m : Meaning). m.contents) same)) ∙ map-set (λ (m : Meaning). m.contents) stores (store_of remote) new)
 
     -- a call that did not reach it
-    unreached : new ≡ old → left ≡ failed before → Goes (λ v os. next IsLost (at_link link remote failed v) os) (next IsLost) w stores (set stores (store_of remote) new) (Went link remote left new.contents w)
+    unreached : new ≡ old → left ≡ failed before → Goes (λ v os. next Missed (at_link link remote failed v) os) (next Missed) w stores (set stores (store_of remote) new) (Went link remote left new.contents w)
     unreached same e = record {
       used = [];
       new = at_link link remote failed w;
       goes = λ more. refl;
       stores = stays same;
       lost = omega arith;
+      asked = omega arith;
       tallies = record { lost = λ i. rw (sets same) (omega arith); asked = λ i. rw (sets same) (omega arith) };
+      in_turn = λ numbers. (tt, subst NumberInTurn (sym (sets same)) numbers);
       shows = record { local = refl; stores = left_is same; remotes = ap (set w.remotes remote) (replaced link failed left (remote_at w remote) e); reports = refl; text = refl };
     }
 
-    -- the store made the call, or lost it itself, and its answer was lost
-    made_behind : left ≡ failed before → MadeBehind old new request → Goes (λ v. ask (store_of remote) request (λ x. next IsLost) (at_link link remote failed v)) (next IsLost) w stores (set stores (store_of remote) new) (Went link remote left new.contents w)
-    made_behind e m = elim m.1 [
-      | inl x ↦ reached failed (λ x. next IsLost) Answers e m.0 tt x
-      | inr (inl x) ↦ reached failed (λ x. next IsLost) Refuses e m.0 tt x
-      | inr (inr x) ↦ reached failed (λ x. next IsLost) IsLost e m.0 tt x
-    ]
+    -- the store was asked, and its answer was lost
+    asked_behind : left ≡ failed before → IsAsked request old new → Goes (λ v. ask (store_of remote) request (λ heard. next Missed) (at_link link remote failed v)) (next Missed) w stores (set stores (store_of remote) new) (Went link remote left new.contents w)
+    asked_behind e asked =
+        let some = some_heard asked.end new.contents asked.told in
+        reached failed (λ heard. next Missed) asked.end some.0 e asked.called some.1
 
     -- by what the link does to the call
-    by_fate : (f : Fate) (end : Ending) → IsTold end → CrossedBy f before left old new request end → crossed.Does request end (linked before old) (linked left new) → Keeps (linked before old) (linked left new)
-        → Goes (λ v. ask_by f link remote request next v) (next end) w stores (set stores (store_of remote) new) (Went link remote left new.contents w)
-    by_fate Passes end told c does keeps =
-        let same : left.faults ≡ before.faults = ap (λ (l : Link). l.faults) c ∙ passed_faults before in
-        reached passed next end c (keeps_behind before left old new same keeps) told (does_behind request end before left old new same does)
-    by_fate FailsBefore end told c does keeps =
-        subst (λ (e : Ending). Goes (λ v os. next IsLost (at_link link remote failed v) os) (next e) w stores (set stores (store_of remote) new) (Went link remote left new.contents w)) (sym c.0) (unreached c.2 c.1)
-    by_fate FailsAfter end told (inl c) does keeps = absurd (subst IsTold c.0 told)
-    by_fate FailsAfter end told (inr c) does keeps =
-        subst (λ (e : Ending). Goes (λ v. ask (store_of remote) request (λ x. next IsLost) (at_link link remote failed v)) (next e) w stores (set stores (store_of remote) new) (Went link remote left new.contents w)) (sym c.0) (made_behind c.1 c.2)
+    by_fate : (f : Fate) (end : Ending) (heard : Heard) → CrossedBy f before left old new request end → Hears end new.contents heard
+        → Goes (λ v. ask_by f link remote request next v) (next heard) w stores (set stores (store_of remote) new) (Went link remote left new.contents w)
+    by_fate Passes end heard c hears = reached passed next end heard c.0 c.1 hears
+    by_fate FailsBefore end heard c hears =
+        let missed : heard ≡ Missed = subst (λ (e : Ending). Hears e new.contents heard) c.0 hears in
+        subst (λ (h : Heard). Goes (λ v os. next Missed (at_link link remote failed v) os) (next h) w stores (set stores (store_of remote) new) (Went link remote left new.contents w)) (sym missed) (unreached c.2 c.1)
+    by_fate FailsAfter end heard (inl c) hears = absurd (subst (λ (e : Ending). Hears e new.contents heard) c.0 hears)
+    by_fate FailsAfter end heard (inr c) hears =
+        let missed : heard ≡ Missed = subst (λ (e : Ending). Hears e new.contents heard) c.0 hears in
+        subst (λ (h : Heard). Goes (λ v. ask (store_of remote) request (λ x. next Missed) (at_link link remote failed v)) (next h) w stores (set stores (store_of remote) new) (Went link remote left new.contents w)) (sym missed) (asked_behind c.1 c.2)
 
     -- the call, through the link
-    pub through : (end : Ending) → IsTold end → Called request end (before, old) (left, new) → Goes (λ v. ask_through link remote request next v) (next end) w stores (set stores (store_of remote) new) (Went link remote left new.contents w)
-    through end told called =
-        Goes-as (λ v. ask_by (fate before) link remote request next v) (λ v. ask_through link remote request next v) (next end) (next end) w stores (set stores (store_of remote) new) (Went link remote left new.contents w) (λ os. refl) (λ v os. refl) (by_fate (fate before) end told called.crossed called.does called.keeps)
+    pub through : (end : Ending) (heard : Heard) → Crossed before left old new request end → Hears end new.contents heard → Goes (λ v. ask_through link remote request next v) (next heard) w stores (set stores (store_of remote) new) (Went link remote left new.contents w)
+    through end heard crossed hears =
+        Goes-as (λ v. ask_by (fate before) link remote request next v) (λ v. ask_through link remote request next v) (next heard) (next heard) w stores (set stores (store_of remote) new) (Went link remote left new.contents w) (λ os. refl) (λ v os. refl) (by_fate (fate before) end heard crossed hears)

@@ -1,24 +1,18 @@
 -- What a turn of the agent's reader through a link was, and what it made of the reader and of the view.
-use Rattle.std.proofs.Common.{◌≡◌, ◌≢◌, ◌≤◌, ℕ, ◌+◌, leb, List, [], ◌∷◌, Bool, true, false, Result, Ok, if◌then◌else◌, Option, None, Some, refl, sym, ap, subst, ◌∙◌, arith}
-use Rattle.std.proofs.lemmas.Bool.{le-leb, lt-leb}
+use Rattle.std.proofs.Common.{◌≡◌, ◌≤◌, ℕ, List, [], ◌∷◌, Bool, Result, Ok, Option, None, Some, refl, sym, ap, subst, ◌∙◌, arith}
 use Rattle.key_paths.specs.declared.hop.Hop.TheVariants.{State}
 use Rattle.key_paths.specs.Paths.{ranges_of}
 use Rattle.record_check.specs.declared.limit.Limit.TheVariants.{Small}
-use Rattle.exporter.specs.Crossed.{Does}
-use Rattle.store_api.specs.Advance.{turned}
 use Rattle.mesh_base.specs.declared.memory.Memory.{Memory}
-use Rattle.store_api.specs.Contents.{Contents, unchanged}
-use Rattle.store_api.specs.Calls.{to_list, to_pull, in_turn}
+use Rattle.store_api.specs.Contents.{Contents}
 use Rattle.store_api.specs.Followed.{Followed}
 use Rattle.store_api.specs.Given.{IsGiven, IsGivenIf, gone_on, gone_on_if}
 use Rattle.store_api.specs.History.{Begins, History, revision}
-use Rattle.store_api.specs.Meaning.{Meaning, Makes, MayMake}
 use Rattle.store_api.specs.Spans.{AreSpans, Record, Span, cursor_of}
 use Rattle.store_api.specs.declared.change.Delivery.{Delivery}
 use Rattle.store_api.specs.declared.change.Delivery.TheVariants as delivery
-use Rattle.reflector.specs.Crossing.{asked, end_of}
 use Rattle.reflector.specs.Reader.{Reader, Stands}
-use Rattle.reflector.specs.Turns.{IsAnswer, after_turn, delivery_of, followed}
+use Rattle.reflector.specs.Turns.{after_turn, delivery_of, followed}
 use Rattle.reflector.specs.declared.turns.Turn.{Turn}
 use Rattle.reflector.specs.declared.turns.Turn.TheVariants as turn
 use Rattle.relist_merge.specs.Given.{delivery_from}
@@ -28,38 +22,9 @@ use Rattle.relist_merge.specs.View.{Follows, View, view_after}
 use Rattle.relist_merge.specs.Viewed.{Source, Viewed}
 use Rattle.relist_merge.specs.Viewed as view
 use Rattle.relist_merge.proofs.CallerLemmas.{follows_later}
-use Rattle.scenario_replay.specs.Actions as action
 use Rattle.scenario_replay.specs.Reads.{IsRead}
 use Rattle.scenario_replay.specs.Sources.{state_of}
-use Rattle.scenario_replay.specs.Took.{IsTold}
 use Rattle.scenario_replay.specs.declared.agent.Agent.{Agent}
-
--- a turn never wants memory
-pub told_turn : (t : Turn) → IsTold (end_of t)
-told_turn (turn.Listed l) = tt
-told_turn (turn.Pulled b) = tt
-told_turn (turn.Compacted n) = tt
-told_turn turn.Lost = tt
-told_turn turn.NothingNew = tt
-
--- its call has no effect
-no_effect : (reader : Reader) → in_turn (asked reader) ≡ unchanged
-no_effect reader = elim reader.is_waiting as (λ b. in_turn (if b then to_list else to_pull (reader.cursor + 1)) ≡ unchanged) [ true ↦ refl | false ↦ refl ]
-
--- whether the call is refused
-lists : (reader : Reader) (c : Contents) → reader.is_waiting ≡ true → (asked reader).is_refused c ≡ false
-lists reader c waits = rw waits refl
-
-pulls : (reader : Reader) (c : Contents) → reader.is_waiting ≡ false → (asked reader).is_refused c ≡ leb (reader.cursor + 1) c.compacted
-pulls reader c runs = rw runs refl
-
--- what the call of a turn did to the store
-pub does_turn : (most : ℕ) (reader : Reader) (t : Turn) (old new : Meaning) → IsAnswer most new.contents reader t → (t ≢ turn.Lost → Makes old new unchanged) → (t ≡ turn.Lost → MayMake old new unchanged) → Does (asked reader) (end_of t) old new
-does_turn most reader (turn.Listed l) old new a made lost = (lists reader new.contents a.0, rw (no_effect reader) (made (λ e. cc)))
-does_turn most reader (turn.Pulled b) old new a made lost = (pulls reader new.contents a.0 ∙ lt-leb (reader.cursor + 1) new.contents.compacted (omega (arith, a.1)), rw (no_effect reader) (made (λ e. cc)))
-does_turn most reader (turn.Compacted n) old new a made lost = (pulls reader new.contents a.0 ∙ le-leb (reader.cursor + 1) new.contents.compacted (omega (arith, a.1, a.2)), made (λ e. cc))
-does_turn most reader turn.Lost old new a made lost = rw (no_effect reader) (lost refl)
-does_turn most reader turn.NothingNew old new a made lost = (pulls reader new.contents a.0 ∙ lt-leb (reader.cursor + 1) new.contents.compacted (omega (arith, a.1)), rw (no_effect reader) (made (λ e. cc)))
 
 -- the reader keeps its ranges
 pub same_ranges : (t : Turn) (reader : Reader) → (after_turn t reader).ranges ≡ reader.ranges
@@ -68,14 +33,6 @@ same_ranges (turn.Pulled b) reader = refl
 same_ranges (turn.Compacted n) reader = refl
 same_ranges turn.Lost reader = refl
 same_ranges turn.NothingNew reader = refl
-
--- its record goes on by how the call ended, over the contents that the store has then
-pub turned_so : (most : ℕ) (c : Contents) (t : Turn) (r : Record) → (t ≢ turn.Lost → followed t r ≡ turned most (revision c.history) c.compacted r) → followed t r ≡ action.turned_by most (end_of t) c r
-turned_so most c (turn.Listed l) r advance = advance (λ e. cc)
-turned_so most c (turn.Pulled b) r advance = advance (λ e. cc)
-turned_so most c (turn.Compacted n) r advance = advance (λ e. cc)
-turned_so most c turn.Lost r advance = refl
-turned_so most c turn.NothingNew r advance = advance (λ e. cc)
 
 -- the ranges and the source of the view of a cluster's own store
 abbrev pub source_of : List ℕ → Source
@@ -106,19 +63,17 @@ cursor_within last [] within = omega arith
 cursor_within last (s ∷ older) within = within.1
 
 -- the agent's reader and view after a turn
-pub read_on : (most : ℕ) (cluster : List ℕ) (h : History) (c : Contents) (t : Turn) (r : Record) (old new : Agent) → IsRead cluster h r old
-    → new.reader ≡ after_turn t old.reader → Stands new.reader (followed t r) → (t ≢ turn.Lost → followed t r ≡ turned most (revision c.history) c.compacted r) → AreSpans (revision c.history) (followed t r).spans
+pub read_on : (cluster : List ℕ) (h : History) (c : Contents) (t : Turn) (r : Record) (old new : Agent) → IsRead cluster h r old
+    → new.reader ≡ after_turn t old.reader → Stands new.reader (followed t r) → AreSpans (revision c.history) (followed t r).spans
     → (viewed new.view).source ≡ (viewed old.view).source → Follows (state_of cluster) c.history (followed t r) (viewed new.view).shown
-    → IsRead cluster c.history (action.turned_by most (end_of t) c r) new
-read_on most cluster h c t r old new is reader stands advance spans source follows =
-    let e : followed t r ≡ action.turned_by most (end_of t) c r = turned_so most c t r advance in
-    record {
-      ranges = ap (λ (x : Reader). x.ranges) reader ∙ same_ranges t old.reader ∙ is.ranges;
-      stands = subst (λ (q : Record). Stands new.reader q) e stands;
-      spans = subst (λ (q : Record). AreSpans (revision c.history) q.spans) e spans;
-      source = source ∙ is.source;
-      follows = subst (λ (q : Record). Follows (state_of cluster) c.history q (viewed new.view).shown) e follows;
-    }
+    → IsRead cluster c.history (followed t r) new
+read_on cluster h c t r old new is reader stands spans source follows = record {
+  ranges = ap (λ (x : Reader). x.ranges) reader ∙ same_ranges t old.reader ∙ is.ranges;
+  stands = stands;
+  spans = spans;
+  source = source ∙ is.source;
+  follows = follows;
+}
 
 -- what a lost connection leaves of a view: all its entries
 pub lost_entries : (f : Followed) (d : Delivery) (old new : View) → d ≡ delivery.Lost → new ≡ view_after f (delivery_from d) old → new.entries ≡ old.entries

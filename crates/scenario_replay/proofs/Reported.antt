@@ -109,7 +109,9 @@ one_report_more old sighting report number text more counted printed put order i
       goes = λ os. refl;
       stores = has.contents;
       lost = omega arith;
+      asked = omega arith;
       tallies = record { lost = λ i. omega arith; asked = λ i. omega arith };
+      in_turn = λ numbers. (tt, numbers);
       shows = record {
         many = has.many;
         opens = has.opens;

@@ -1,62 +1,55 @@
--- What became of the calls of an exporter that was handed a link, as calls through the link to a store.
-use Rattle.std.proofs.Common.{◌≡◌, ◌≢◌, ℕ, refl, subst, inl, inr}
-use Rattle.store_api.specs.Contents.{Contents}
-use Rattle.store_api.specs.Calls.{Request, Ending, Refuses, IsLost, to_commit}
+-- What an exporter and a reader that were handed a link say of the link and of the store behind it.
+use Rattle.std.proofs.Common.{◌≡◌, ◌≢◌, ℕ, zero, suc, Option, None, Some, Result, Err, refl, sym, ap, subst}
+use Rattle.store_api.specs.Calls.{Request, Ending, Heard, Answered, Refused, Missed, HeardOf, Talk, Ends, Asks, Talked, on_store}
 use Rattle.store_api.specs.Meaning.{Meaning}
-use Rattle.exporter.specs.Calls as of
-use Rattle.exporter.specs.Crossed.{Crosses, CrossesAll, CrossesOnce, CrossesUpTo, commits, ended_by}
-use Rattle.exporter.specs.State.{Export, after_items, next_ops, turns}
+use Rattle.exporter.specs.State.{Export, after_item}
+use Rattle.exporter.specs.Talks.{Came, ExportTalk, export_talk, keep_talk, keep_under, refused_under, start_talk}
 use Rattle.exporter.specs.declared.fault.ExportFault.{ExportFault}
-use Rattle.exporter.specs.declared.fault.ExportFault.TheVariants.{Lost, NoLease, Memory}
-use Rattle.exporter.proofs.CallerLemmas.{crosses_seen}
-use Rattle.scenario_replay.specs.Actions.{kept_by, started_by}
-use Rattle.scenario_replay.specs.Took.{Called, CrossedWay, Exports, IsTold, Way, meaning_of}
+use Rattle.exporter.specs.declared.fault.ExportFault.TheVariants.{Memory}
+use Rattle.scenario_replay.specs.Ways.{CameTo, CrossedWay, Held, Way, meaning_of}
 
--- a fault other than want of memory was told
-pub told_by : (fault : ExportFault) → fault ≢ Memory → IsTold (ended_by fault)
-told_by Lost told = tt
-told_by (NoLease lease) told = tt
-told_by Memory told = absurd (told refl)
+-- another fault is another answer
+pub other_answer : {T : Type 0} (result : Result T ExportFault) (fault : ExportFault) → result ≡ Err fault → fault ≢ Memory → result ≢ Err Memory
+other_answer result fault is other same = other cc
 
--- an exporter that is as before is one whose start was not answered
-pub not_started : (fault : ExportFault) (contents : Contents) (s s' : Export) → s' ≡ s → s' ≡ started_by (ended_by fault) contents s
-not_started Lost contents s s' same = same
-not_started (NoLease lease) contents s s' same = same
-not_started Memory contents s s' same = same
+-- a store that is seen as a link with what is behind it
+module _ {V : Type 0} (meaning : V → Meaning) (crossed : V → V → Request → Ending → Type 0) (way : V → Way)
+    (each : (request : Request) (old new : V) (heard : Heard) → HeardOf meaning crossed request old new heard → HeardOf meaning_of CrossedWay request (way old) (way new) heard) where
+  pub held : {X : Type 0} (talk : Talk (Unit {0}) X) (old new : V) (came : X) → Talked (on_store {W = Unit {0}} meaning crossed) talk old new came → Held talk (way old) (way new) came
+  held (Ends end) old new came talked = (ap way talked.0, talked.1)
+  held (Asks at request next) old new came (heard, mid, call, more) = (heard, way mid, each request old mid heard call, held (next heard) mid new came more)
 
--- an exporter whose lease was not kept alive goes on by how that ended
-pub not_kept : (fault : ExportFault) (s s' : Export) (old new : Meaning) → of.RefusesKeep fault s s' old new → s' ≡ kept_by (ended_by fault) s
-not_kept Lost s s' old new why = why.1
-not_kept (NoLease lease) s s' old new why = why.1.stopped
-not_kept Memory s s' old new why = absurd why
+  pub came_to : (talk : ExportTalk) (s : Export) (fault : Option ExportFault) (old new : V) → Talked (on_store {W = Unit {0}} meaning crossed) talk old new (record { exporter = s; fault = fault }) → CameTo talk s (way old) (way new)
+  came_to talk s fault old new talked = record { fault = fault; held = held talk old new (record { exporter = s; fault = fault }) talked }
 
-module _ {V : Type 0} (meaning : V → Meaning) (crossed : V → V → Request → Ending → Type 0) (way : V → Way) (each : (request : Request) (end : Ending) (old new : V) → Crosses meaning crossed request end old new → Called request end (way old) (way new)) where
-  -- a call that was told was made
-  pub once_told : (request : Request) (end : Ending) (old new : V) → IsTold end → CrossesOnce meaning crossed request end old new → Called request end (way old) (way new)
-  once_told request end old new told (inl none) = absurd (subst IsTold none.0 told)
-  once_told request end old new told (inr one) = each request end old new one
+-- the talks of an exporter leave it one of its cluster
+pub record IsOfSame (s s' : Export) : Type 0 where
+  pub cluster : s'.cluster ≡ s.cluster
+  pub number : s'.number ≡ s.number
 
-  -- an export that wrote all that there was to be
-  pub all_written : (most : ℕ) (s s' : Export) (old new : V) → s' ≡ after_items (turns most s) s → CrossesAll meaning crossed (commits (turns most s) s) old new → Exports most s s' (way old) (way new)
-  all_written most s s' old new after all = record {
-    done = turns most s;
-    mid = way new;
-    answered = crosses_seen meaning crossed meaning_of CrossedWay way each (commits (turns most s) s) old new all;
-    ends = inl (refl, after, refl);
-  }
+itself : (s : Export) → IsOfSame s s
+itself s = record { cluster = refl; number = refl }
 
-  -- one that ended before
-  pub written_up_to : (most : ℕ) (fault : ExportFault) (s s' : Export) (old new : V) → fault ≢ Memory → CrossesUpTo meaning crossed fault most s s' old new → Exports most s s' (way old) (way new)
-  written_up_to most Lost s s' old new told c = record {
-    done = c.done;
-    mid = way c.mid;
-    answered = crosses_seen meaning crossed meaning_of CrossedWay way each (commits c.done s) old c.mid c.answered;
-    ends = inr (c.fewer, record { end = IsLost; stops = tt; called = once_told (to_commit (next_ops (after_items c.done s))) IsLost c.mid new tt c.last; after = c.refused.1 });
-  }
-  written_up_to most (NoLease lease) s s' old new told c = record {
-    done = c.done;
-    mid = way c.mid;
-    answered = crosses_seen meaning crossed meaning_of CrossedWay way each (commits c.done s) old c.mid c.answered;
-    ends = inr (c.fewer, record { end = Refuses; stops = tt; called = once_told (to_commit (next_ops (after_items c.done s))) Refuses c.mid new tt c.last; after = c.refused.1.stopped });
-  }
-  written_up_to most Memory s s' old new told c = absurd (told refl)
+pub start_same : (s : Export) (came : Came) (old new : Way) → Held (start_talk s) old new came → IsOfSame s came.exporter
+start_same s came old new (Answered c, mid, call, ends) = subst (λ (x : Came). IsOfSame s x.exporter) (sym ends.1) (record { cluster = refl; number = refl })
+start_same s came old new (Refused c, mid, call, ends) = subst (λ (x : Came). IsOfSame s x.exporter) (sym ends.1) (itself s)
+start_same s came old new (Missed, mid, call, ends) = subst (λ (x : Came). IsOfSame s x.exporter) (sym ends.1) (itself s)
+
+keep_same_under : (lease : Option ℕ) (s : Export) (came : Came) (old new : Way) → Held (keep_under lease s) old new came → IsOfSame s came.exporter
+keep_same_under None s came old new ends = subst (λ (x : Came). IsOfSame s x.exporter) (sym ends.1) (itself s)
+keep_same_under (Some lease) s came old new (Answered c, mid, call, ends) = subst (λ (x : Came). IsOfSame s x.exporter) (sym ends.1) (itself s)
+keep_same_under (Some lease) s came old new (Refused c, mid, call, ends) = subst (λ (x : Came). IsOfSame s x.exporter) (sym ends.1) (record { cluster = refl; number = refl })
+keep_same_under (Some lease) s came old new (Missed, mid, call, ends) = subst (λ (x : Came). IsOfSame s x.exporter) (sym ends.1) (itself s)
+
+pub keep_same : (s : Export) (came : Came) (old new : Way) → Held (keep_talk s) old new came → IsOfSame s came.exporter
+keep_same s came old new h = keep_same_under s.lease s came old new h
+
+refused_same : (lease : Option ℕ) (s : Export) (came : Came) (old new : Way) → Held (refused_under lease s) old new came → IsOfSame s came.exporter
+refused_same None s came old new ends = subst (λ (x : Came). IsOfSame s x.exporter) (sym ends.1) (itself s)
+refused_same (Some lease) s came old new ends = subst (λ (x : Came). IsOfSame s x.exporter) (sym ends.1) (record { cluster = refl; number = refl })
+
+pub export_same : (n : ℕ) (s : Export) (came : Came) (old new : Way) → Held (export_talk n s) old new came → IsOfSame s came.exporter
+export_same zero s came old new ends = subst (λ (x : Came). IsOfSame s x.exporter) (sym ends.1) (itself s)
+export_same (suc n) s came old new (Answered c, mid, call, more) = let rest = export_same n (after_item s) came mid new more in record { cluster = rest.cluster; number = rest.number }
+export_same (suc n) s came old new (Refused c, mid, call, ends) = refused_same s.lease s came mid new ends
+export_same (suc n) s came old new (Missed, mid, call, ends) = subst (λ (x : Came). IsOfSame s x.exporter) (sym ends.1) (itself s)

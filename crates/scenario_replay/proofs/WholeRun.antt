@@ -12,6 +12,7 @@ use Rattle.store_api.specs.Meaning.{Meaning}
 use Rattle.store_api.specs.Streams.{HoldsFront, HoldsMore}
 use Rattle.scenario_replay.specs.Actions.{act_all}
 use Rattle.scenario_replay.specs.Asking.{done}
+use Rattle.scenario_replay.specs.Goes.{NumberInTurn}
 use Rattle.scenario_replay.specs.Program.{NoneFailed, Ran, RanPlainly, Reports, WroteFront, WroteSome, OfRefusal, contents_of, refusal_line}
 use Rattle.scenario_replay.specs.Shown.{HasWorld, Makes}
 use Rattle.scenario_replay.specs.World.{first_world, new_remote, seconds_of}
@@ -44,9 +45,9 @@ module _ (left : Option (List ℕ)) (scenario : Said) (before after : List Meani
   pub ran : HoldsMore held holds text → IfSome left (λ (input : List ℕ). Ran input before after held holds)
   ran wrote = if_some left (λ (input : List ℕ). scenario_of mode.Step input ≡ Ok scenario) (λ (input : List ℕ). Ran input before after held holds) (λ input is. record { said = scenario; reads = is; text = text; reports = reports; wrote = wrote }) reads
 
-  pub ran_plainly : HoldsMore held holds text → NoneFailed before after → IfSome left (λ (input : List ℕ). RanPlainly input before after held holds)
-  ran_plainly wrote still =
-      let p = plainly scenario before after text reports still in
+  pub ran_plainly : HoldsMore held holds text → NumberInTurn before → NoneFailed before after → IfSome left (λ (input : List ℕ). RanPlainly input before after held holds)
+  ran_plainly wrote numbers still =
+      let p = plainly scenario before after text reports numbers still in
       if_some left (λ (input : List ℕ). scenario_of mode.Step input ≡ Ok scenario) (λ (input : List ℕ). RanPlainly input before after held holds) (λ input is. record { said = scenario; reads = is; wrote = subst (λ (t : List ℕ). HoldsMore held holds t) p.0 wrote; stores = p.1 }) reads
 
   pub wrote_front : HoldsFront held holds text → IfSome left (λ (input : List ℕ). WroteFront input before after held holds)

@@ -1,5 +1,5 @@
 -- The program goes on to a world where one remote, or one store, has gone on.
-use Rattle.std.proofs.Common.{◌≡◌, ℕ, ◌+◌, ◌<◌, ◌≤◌, ◌==◌, ◌||◌, not, List, [], ◌∷◌, length, map, drop, get_or, refl, ap, sym, ◌∙◌, subst, arith, true, false, Bool, if◌then◌else◌}
+use Rattle.std.proofs.Common.{◌≡◌, ℕ, ◌<◌, ◌≤◌, List, ◌∷◌, length, map, drop, get_or, refl, ap, sym, ◌∙◌, subst, arith, true}
 use Rattle.std.proofs.Math.ListN.{set}
 use Rattle.std.proofs.Math.Seq.{map-set_same}
 use Rattle.std.proofs.lemmas.List.{map-set, set-set, set-get_or, get_or-set_same, get_or-map, length-map, length-set}
@@ -8,50 +8,17 @@ use Rattle.std.specs.List.{IsDistinct}
 use Rattle.flaky_link.specs.Link.{Link, linked}
 use Rattle.mesh_base.specs.Order.{same_bytes}
 use Rattle.store_api.specs.Contents.{Contents, empty_contents}
-use Rattle.store_api.specs.Calls.{to_commit, to_grant, to_keep_alive, to_list, to_pull, to_tick}
 use Rattle.store_api.specs.History.{Begins}
-use Rattle.store_api.specs.Leases.{Lease, deadline_at, is_live_lease, kept_alive}
 use Rattle.store_api.specs.Meaning.{Meaning, Keeps}
-use Rattle.store_api.specs.Spans.{Record, cursor_of}
-use Rattle.store_api.specs.declared.change.Op.{Op}
-use Rattle.scenario_replay.specs.Actions.{asked}
 use Rattle.scenario_replay.specs.Goes.{IsOpen}
 use Rattle.scenario_replay.specs.Shown.{HasSomeWorld, HasWorld, IsShown, IsSome, names_in}
 use Rattle.scenario_replay.specs.World as world
 use Rattle.scenario_replay.specs.World.{World, at_remote, contents_at, no_remote, remote_at, store_of}
 use Rattle.scenario_replay.specs.declared.remote.Remote.{Remote}
 use Rattle.scenario_replay.specs.declared.replay.Replay.{Replay}
-use Rattle.scenario_replay.proofs.Calls.{Beside, IsSteady}
+use Rattle.scenario_replay.proofs.Calls.{Beside}
 use Rattle.scenario_replay.proofs.Links.{Moved}
 use Rattle.scenario_replay.proofs.Places.{as_many, drop_get, drop_set, shown_as, shown_at, shown_from, shown_set}
-
--- ---- the effect of a call does not change whether it is refused
-pub steady_grant : (seconds : ℕ) → IsSteady (to_grant seconds)
-steady_grant seconds c = refl
-
-pub steady_commit : (ops : List Op) → IsSteady (to_commit ops)
-steady_commit ops c = refl
-
-pub steady_tick : (seconds : ℕ) → IsSteady (to_tick seconds)
-steady_tick seconds c = refl
-
-steady_asked_by : (b : Bool) (from : ℕ) → IsSteady (if b then to_pull from else to_list)
-steady_asked_by true from c = refl
-steady_asked_by false from c = refl
-
-pub steady_asked : (r : Record) → IsSteady (asked r)
-steady_asked r = steady_asked_by r.is_open (cursor_of r.spans + 1)
-
--- a renewal keeps the numbers
-same_number : (now n : ℕ) (l : Lease) → (kept_alive now n l).number ≡ l.number
-same_number now n l = elim (l.number == n) as (λ b. (if b then record l { deadline = deadline_at now l.seconds } else l).number ≡ l.number) [ true ↦ refl | false ↦ refl ]
-
-still_live : (now n k : ℕ) (live : List Lease) → is_live_lease (map (kept_alive now n) live) k ≡ is_live_lease live k
-still_live now n k [] = refl
-still_live now n k (l ∷ live) = ap (λ (x : ℕ). (x == k) || is_live_lease (map (kept_alive now n) live) k) (same_number now n l) ∙ ap (λ (b : Bool). (l.number == k) || b) (still_live now n k live)
-
-pub steady_keep_alive : (lease : ℕ) → IsSteady (to_keep_alive lease)
-steady_keep_alive lease c = ap not (still_live c.leases.now lease lease c.leases.live)
 
 -- ---- a store stays open
 pub open_kept : (m m' : Meaning) → Keeps m m' → IsOpen m → IsOpen m'

@@ -1,18 +1,18 @@
 -- What each line of a scenario does to a world, by the outcomes of the calls that it makes.
 -- Source: Cilium's ClusterMesh documentation (exporters write under a lease; agents list and watch) and
 -- etcd's API (Txn, LeaseGrant, LeaseKeepAlive, Compact, Watch). Links and clocks are this project's own.
-use Rattle.std.specs.Prelude.{ℕ, zero, suc, ◌+◌, ◌-◌, ◌^◌, List, [], ◌∷◌, ◌++◌, map, length, Bool, not, true, false, if◌then◌else◌, Option, None, Some}
-use Rattle.store_api.specs.Advance.{closed, turned}
-use Rattle.store_api.specs.Contents.{Contents, after_tick, after_compact}
-use Rattle.store_api.specs.Calls.{Request, Ending, Answers, Refuses, IsLost, to_list, to_pull, to_commit, to_grant, to_keep_alive, to_tick}
-use Rattle.store_api.specs.History.{revision}
-use Rattle.store_api.specs.Spans.{Record, cursor_of, unread}
+use Rattle.std.specs.Prelude.{ℕ, zero, suc, ◌+◌, ◌-◌, ◌^◌, List, [], ◌∷◌, ◌++◌, map, length, Bool, not, true, false, None}
+use Rattle.store_api.specs.Contents.{Contents}
+use Rattle.store_api.specs.Calls.{Talk, to_commit, to_compact, to_tick}
+use Rattle.store_api.specs.Spans.{unread}
 use Rattle.store_api.specs.declared.change.Op.{Op}
 use Rattle.store_api.specs.declared.change.Op.TheVariants as op
 use Rattle.flaky_link.specs.Link.{Link}
 use Rattle.flaky_link.specs.declared.state.When.{When}
 use Rattle.flaky_link.specs.declared.state.When.TheVariants as when
-use Rattle.exporter.specs.State.{Export, after_item, after_start, after_stop, next_ops, turns}
+use Rattle.exporter.specs.State.{Export, after_stop, turns}
+use Rattle.exporter.specs.Talks.{Came, export_talk, keep_talk, start_talk}
+use Rattle.reflector.specs.Talks.{turn_talk}
 use Rattle.report_text.specs.Text.{report_text}
 use Rattle.report_text.specs.declared.head.Head.TheVariants as head
 use Rattle.scenario_lang.specs.Lines.{Said}
@@ -28,10 +28,10 @@ use Rattle.scenario_lang.specs.declared.scenario.RawWrite.{RawWrite}
 use Rattle.scenario_lang.specs.declared.scenario.RawWrite.TheVariants as raw
 use Rattle.scenario_lang.specs.declared.scenario.StoreOf.{StoreOf}
 use Rattle.scenario_lang.specs.declared.scenario.StoreOf.TheVariants as store
-use Rattle.scenario_replay.specs.Asking.{Outcome, Step, done, counted, ask, ask_through, at_link}
+use Rattle.scenario_replay.specs.Asking.{Outcome, Step, done, ask, ask_surely, at_link, play}
 use Rattle.scenario_replay.specs.Records.{declaring, declaring_node, withdrawing, identity_of, address_of, identity_key, address_key}
 use Rattle.scenario_replay.specs.Sources.{report_of}
-use Rattle.scenario_replay.specs.World.{Remote, World, contents_at, remote_at, store_of, with_exporter, with_reader, at_store, at_remote, first_world}
+use Rattle.scenario_replay.specs.World.{Remote, World, remote_at, store_of, with_exporter, with_reader, at_remote, first_world}
 
 -- from a world on to the next, with the outcomes that are left
 abbrev pub Does : Type 0
@@ -53,50 +53,25 @@ abbrev pub most : Count → ℕ
 most (count.Of n) = n
 most count.All = 2 ^ 64 - 1
 
--- a call through a link, and what its end makes of the remote, over the contents that the store has then
-abbrev pub asks : LinkName → ℕ → Request → (Ending → Contents → Remote → Remote) → Does
-asks link remote request ends w outcomes =
-    ask_through link remote request (λ end now left. done (at_remote remote (ends end (contents_at now (store_of remote))) now) left) w outcomes
+-- a talk of a remote's exporter or reader over a link, and what comes of it put in the remote
+abbrev pub speak : {X : Type 0} → LinkName → ℕ → (Remote → Talk (Unit {0}) X) → (X → Remote → Remote) → Does
+speak link remote talk ends w outcomes = play link remote (talk (remote_at w remote)) (λ came. changes (at_remote remote (ends came))) w outcomes
+
+abbrev pub came_to : Came → Remote → Remote
+came_to came r = with_exporter (λ e. came.exporter) r
 
 -- start: a lease is granted, and everything is queued under it
-abbrev pub started_by : Ending → Contents → Export → Export
-started_by Answers c e = after_start c.leases.last e
-started_by _ c e = e
-
 abbrev pub start : ℕ → Does
-start remote w outcomes = asks link.Exporter remote (to_grant (exporter_at w remote).seconds) (λ end c. with_exporter (started_by end c)) w outcomes
+start remote = speak link.Exporter remote (λ r. start_talk r.exporter) came_to
 
 -- keep: the lease lives on; an exporter whose lease is dead stops
-abbrev pub kept_by : Ending → Export → Export
-kept_by Refuses e = after_stop e
-kept_by _ e = e
-
-abbrev pub keep_lease : ℕ → Option ℕ → Does
-keep_lease remote None w outcomes = done w outcomes
-keep_lease remote (Some lease) w outcomes = asks link.Exporter remote (to_keep_alive lease) (λ end c. with_exporter (kept_by end)) w outcomes
-
 abbrev pub keep : ℕ → Does
-keep remote w outcomes = keep_lease remote (exporter_at w remote).lease w outcomes
+keep remote = speak link.Exporter remote (λ r. keep_talk r.exporter) came_to
 
 -- export: items are written from the front of the queue, one commit each, until one is refused or lost;
 -- an exporter whose lease is dead stops
-abbrev pub exported_by : Ending → Export → Export
-exported_by Answers e = after_item e
-exported_by Refuses e = after_stop e
-exported_by _ e = e
-
-abbrev pub if_answered : Ending → Does → Does
-if_answered Answers rest w outcomes = rest w outcomes
-if_answered _ rest w outcomes = done w outcomes
-
-abbrev pub export_items : ℕ → ℕ → Does
-export_items remote zero w outcomes = done w outcomes
-export_items remote (suc n) w outcomes =
-    ask_through link.Exporter remote (to_commit (next_ops (exporter_at w remote)))
-    (λ end now left. if_answered end (export_items remote n) (at_exporter remote (exported_by end) now) left) w outcomes
-
 abbrev pub export : ℕ → ℕ → Does
-export remote n w outcomes = export_items remote (turns n (exporter_at w remote)) w outcomes
+export remote n = speak link.Exporter remote (λ r. export_talk (turns n r.exporter) r.exporter) came_to
 
 -- raw: one operation without a lease, straight to the store
 abbrev pub raw_op : RawWrite → Op
@@ -104,21 +79,20 @@ raw_op (raw.Put key value) = op.Put key value None
 raw_op (raw.Delete key) = op.Delete key
 
 abbrev pub write_raw : ℕ → RawWrite → Does
-write_raw remote write w outcomes = ask (store_of remote) (to_commit (raw_op write ∷ [])) (λ end. done) w outcomes
+write_raw remote write w outcomes = ask (store_of remote) (to_commit (raw_op write ∷ [])) (λ heard. done) w outcomes
 
 -- tick: the clock of each of so many stores from a place on, one after another
 abbrev pub tick_from : ℕ → ℕ → ℕ → Does
 tick_from place zero seconds w outcomes = done w outcomes
-tick_from place (suc n) seconds w outcomes = ask place (to_tick seconds) (λ end. tick_from (place + 1) n seconds) w outcomes
+tick_from place (suc n) seconds w outcomes = ask place (to_tick seconds) (λ heard. tick_from (place + 1) n seconds) w outcomes
 
 -- compact: the history of one store
 abbrev pub place_of : StoreOf → ℕ
 place_of store.Local = 0
 place_of (store.Remote remote) = store_of remote
 
--- a compaction is always made, and so it takes no outcome
-abbrev pub compacted : ℕ → ℕ → World → World
-compacted place upto w = counted place (at_store place (after_compact upto) w)
+abbrev pub compact : ℕ → ℕ → Does
+compact place upto = ask_surely place (to_compact upto)
 
 -- link: it is up or down; a planned failure stands behind the others
 abbrev pub with_way : Bool → Link → Link
@@ -133,15 +107,8 @@ with_failure skip when l = record l { plan = l.plan ++ (skip, when) ∷ [] }
 
 -- turn: a reader that waits lists, and another watches from behind its cursor; a lost call closes its
 -- record
-abbrev pub asked : Record → Request
-asked r = if r.is_open then to_pull (cursor_of r.spans + 1) else to_list
-
-abbrev pub turned_by : ℕ → Ending → Contents → Record → Record
-turned_by n IsLost c r = closed r
-turned_by n _ c r = turned n (revision c.history) c.compacted r
-
 abbrev pub turn : ℕ → ℕ → Does
-turn remote n w outcomes = asks link.Agent remote (asked (remote_at w remote).reader) (λ end c. with_reader (turned_by n end c)) w outcomes
+turn remote n = speak link.Agent remote (λ r. turn_talk n r.reader) (λ read. with_reader (λ before. read))
 
 -- restart agent: every reader begins new
 abbrev pub restarted : World → World
@@ -174,7 +141,7 @@ act (action.Keep remote) w outcomes = keep remote w outcomes
 act (action.Export remote count) w outcomes = export remote (most count) w outcomes
 act (action.Raw remote write) w outcomes = write_raw remote write w outcomes
 act (action.Tick seconds) w outcomes = tick_from 0 (length w.remotes + 1) seconds w outcomes
-act (action.Compact which upto) w outcomes = changes (compacted (place_of which) upto) w outcomes
+act (action.Compact which upto) w outcomes = compact (place_of which) upto w outcomes
 act (action.Link remote link up) w outcomes = changes (at_link link remote (with_way up)) w outcomes
 act (action.Fail remote link skip moment) w outcomes = changes (at_link link remote (with_failure skip (when_of moment))) w outcomes
 act (action.Turn remote count) w outcomes = turn remote (most count) w outcomes

@@ -1,9 +1,9 @@
 -- That the calls on stores went the way that a world says.
-use Rattle.std.specs.Prelude.{◌≡◌, ℕ, ◌+◌, ◌≤◌, ◌==◌, List, [], ◌∷◌, ◌++◌, map, length, if◌then◌else◌, slice_index, true}
+use Rattle.std.specs.Prelude.{◌≡◌, ℕ, ◌+◌, ◌≤◌, ◌==◌, List, [], ◌∷◌, ◌++◌, map, length, if◌then◌else◌, slice_index, true, All}
 use Rattle.store_api.specs.Contents.{empty_contents}
 use Rattle.store_api.specs.Meaning.{Meaning}
 use Rattle.scenario_replay.specs.World.{World}
-use Rattle.scenario_replay.specs.Asking.{Outcome, Made, LostBefore, LostAfter, Step, done}
+use Rattle.scenario_replay.specs.Asking.{Outcome, Made, LostBefore, LostAfter, Next, Step, done}
 
 -- nobody else writes, and every key may be written
 pub record IsOpen (m : Meaning) : Type 0 where
@@ -36,19 +36,33 @@ pub record Tallies (old new : World) (before after : List Meaning) : Type 0 wher
 -- how many of the calls were lost
 abbrev pub losses : List Outcome → ℕ
 losses [] = 0
-losses (Made ∷ more) = losses more
+losses (Made number ∷ more) = losses more
 losses (LostBefore ∷ more) = 1 + losses more
-losses (LostAfter ∷ more) = 1 + losses more
+losses (LostAfter number ∷ more) = 1 + losses more
+
+-- the stores number leases in turn
+abbrev pub NumberInTurn : List Meaning → Type 0
+NumberInTurn stores = All (λ (m : Meaning). m.numbers ≡ true) stores
+
+-- each number is the one after the last
+abbrev pub AreNext : List Outcome → Type 0
+AreNext [] = Unit {0}
+AreNext (Made number ∷ more) = (number ≡ Next) × AreNext more
+AreNext (LostBefore ∷ more) = AreNext more
+AreNext (LostAfter number ∷ more) = (number ≡ Next) × AreNext more
 
 -- With some outcomes, all of them used, what `does` does from the old world is what `rest` does from the
--- new one, whatever outcomes follow; the stores have the new world's contents, and the calls tally.
+-- new one, whatever outcomes follow; the stores have the new world's contents, the calls tally, and stores
+-- that number leases in turn picked no other numbers.
 pub record Goes {X : Type 0} (does rest : Step X) (old : World) (before after : List Meaning) (Shows : World → Type 0) : Type 0 where
   pub used : List Outcome
   pub new : World
   pub goes : (more : List Outcome) → does old (used ++ more) ≡ rest new more
   pub stores : new.stores ≡ map (λ (m : Meaning). m.contents) after
   pub lost : length new.lost ≡ losses used + length old.lost
+  pub asked : length new.asked ≡ length used + length old.asked
   pub tallies : Tallies old new before after
+  pub in_turn : NumberInTurn before → AreNext used × NumberInTurn after
   pub shows : Shows new
 
 -- there are outcomes, all of them used, with which this leads from the old world to one that shows this

@@ -7,5 +7,5 @@ pub mod Records
 pub mod Rows
 pub mod Shown
 pub mod Sources
-pub mod Took
+pub mod Ways
 pub mod World

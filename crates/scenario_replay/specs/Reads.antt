@@ -4,14 +4,13 @@ use Rattle.key_paths.specs.declared.hop.Hop.TheVariants.{State}
 use Rattle.key_paths.specs.Paths.{ranges_of}
 use Rattle.record_check.specs.declared.limit.Limit.TheVariants.{Small}
 use Rattle.reflector.specs.Reader.{Stands}
+use Rattle.reflector.specs.Talks.{turn_talk}
 use Rattle.relist_merge.specs.Sight.{viewed}
 use Rattle.relist_merge.specs.View.{Follows}
-use Rattle.store_api.specs.Contents.{Contents}
-use Rattle.store_api.specs.Calls.{Ending}
 use Rattle.store_api.specs.History.{History, revision}
 use Rattle.store_api.specs.Spans.{AreSpans, Record}
-use Rattle.scenario_replay.specs.Actions.{turned_by}
 use Rattle.scenario_replay.specs.Sources.{state_of}
+use Rattle.scenario_replay.specs.Ways.{Held, Way}
 use Rattle.scenario_replay.specs.declared.agent.Agent.{Agent}
 
 -- the agent's reader and view of the cluster stand where this record of the history ends
@@ -22,7 +21,13 @@ pub record IsRead (cluster : List ℕ) (history : History) (r : Record) (a : Age
   pub source : (viewed a.view).source ≡ record { cluster = cluster; hop = State; limit = Small }
   pub follows : Follows (state_of cluster) history r (viewed a.view).shown
 
--- a turn that ended so over these contents makes the record go on by the rules
-abbrev pub IsTurned : ℕ → History → Agent → Agent → Ending → Contents → Type 0
-IsTurned most history old new end contents =
-    (cluster : List ℕ) (r : Record) → IsRead cluster history r old → IsRead cluster contents.history (turned_by most end contents r) new
+-- the turn of this record was held over the link, and the agent stands where the record is that came of
+-- it
+pub record Turned (most : ℕ) (cluster : List ℕ) (r : Record) (a : Agent) (old new : Way) : Type 0 where
+  pub came : Record
+  pub held : Held (turn_talk most r) old new came
+  pub reads : IsRead cluster new.1.contents.history came a
+
+-- so it is from each record that the agent stood for
+abbrev pub Turns : ℕ → Agent → Agent → Way → Way → Type 0
+Turns most a a' old new = (cluster : List ℕ) (r : Record) → IsRead cluster old.1.contents.history r a → Turned most cluster r a' old new

@@ -2,19 +2,18 @@
 use Rattle.std.specs.Prelude.{◌≡◌, ℕ, ◌≤◌, List, [], ◌∷◌, map, drop, length}
 use Rattle.std.specs.List.{All, IsDistinct}
 use Rattle.mesh_base.specs.Order.{same_bytes}
-use Rattle.exporter.specs.State.{Export}
 use Rattle.flaky_link.specs.Link.{Link}
 use Rattle.scenario_lang.specs.declared.scenario.LinkName.{LinkName}
 use Rattle.scenario_lang.specs.declared.scenario.Remote as said
 use Rattle.store_api.specs.Contents.{Contents}
-use Rattle.store_api.specs.Calls.{Request, Ending}
+use Rattle.store_api.specs.Calls.{Talk}
 use Rattle.store_api.specs.History.{History}
 use Rattle.store_api.specs.Meaning.{Meaning}
 use Rattle.scenario_replay.specs.Actions.{Does}
 use Rattle.scenario_replay.specs.Goes.{IsOpen, Leads}
 use Rattle.scenario_replay.specs.Reads.{IsRead}
 use Rattle.scenario_replay.specs.World as world
-use Rattle.scenario_replay.specs.Took.{Called, Exports, IsTold}
+use Rattle.scenario_replay.specs.Ways.{Held}
 use Rattle.scenario_replay.specs.World.{World, link_of, new_remote, with_link}
 use Rattle.scenario_replay.specs.declared.remote.Remote.{Remote}
 use Rattle.scenario_replay.specs.declared.replay.Replay.{Replay}
@@ -27,27 +26,17 @@ pub record IsShown (history : History) (w : world.Remote) (r : Remote) : Type 0 
   pub to_agent : r.to_agent ≡ w.to_agent
   pub agent : IsRead w.exporter.cluster history w.reader r.agent
 
--- From each world's remote that it was, a call through this link goes on to the one that it is: how the
--- call ended, over the contents that the store has then, makes the new one of the old.
-pub record Asked (link : LinkName) (request : world.Remote → Request) (ends : Ending → Contents → world.Remote → world.Remote) (w : world.Remote) (new : Remote) (before after : Meaning) : Type 0 where
+-- From the world's remote that it was, a talk over this link leads to the one that it is.
+pub record Spoke (link : LinkName) {X : Type 0} (talk : world.Remote → Talk (Unit {0}) X) (ends : X → world.Remote → world.Remote) (w : world.Remote) (new : Remote) (before after : Meaning) : Type 0 where
   pub left : Link
-  pub end : Ending
-  pub told : IsTold end
-  pub called : Called (request w) end (link_of link w, before) (left, after)
-  pub shown : IsShown after.contents.history (ends end after.contents (with_link link (λ l. left) w)) new
+  pub came : X
+  pub held : Held (talk w) (link_of link w, before) (left, after) came
+  pub name : new.exporter.cluster ≡ w.exporter.cluster
+  pub shown : IsShown after.contents.history (ends came (with_link link (λ l. left) w)) new
 
-abbrev pub Asks : LinkName → (world.Remote → Request) → (Ending → Contents → world.Remote → world.Remote) → Remote → Remote → Meaning → Meaning → Type 0
-Asks link request ends old new before after = (w : world.Remote) → IsShown before.contents.history w old → Asked link request ends w new before after
-
--- it writes some items of its exporter's queue through the exporter's link
-pub record Exported (most : ℕ) (w : world.Remote) (new : Remote) (before after : Meaning) : Type 0 where
-  pub left : Link
-  pub exporter : Export
-  pub exports : Exports most w.exporter exporter (w.to_exporter, before) (left, after)
-  pub shown : IsShown after.contents.history (record w { exporter = exporter; to_exporter = left }) new
-
-abbrev pub Writes : ℕ → Remote → Remote → Meaning → Meaning → Type 0
-Writes most old new before after = (w : world.Remote) → IsShown before.contents.history w old → Exported most w new before after
+-- so it does from each
+abbrev pub Speaks : LinkName → {X : Type 0} → (world.Remote → Talk (Unit {0}) X) → (X → world.Remote → world.Remote) → Remote → Remote → Meaning → Meaning → Type 0
+Speaks link talk ends old new before after = (w : world.Remote) → IsShown before.contents.history w old → Spoke link talk ends w new before after
 
 -- a change without a call
 abbrev pub Changes : (world.Remote → world.Remote) → Remote → Remote → Type 0

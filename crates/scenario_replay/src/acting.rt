@@ -2,7 +2,7 @@
 ghost use Rattle.std.specs.Prelude.{◌≡◌, ◌≤◌, ◌<◌, ◌+◌, List, All, OnOk, length, map, true};
 ghost use Rattle.std.specs.List.{AllByRecursion};
 ghost use Rattle.scenario_lang.specs.Valid.{IsActionOf};
-ghost use Rattle.scenario_replay.specs.Actions.{act, act_all, changes, compacted, export, is_change, keep, most, place_of, restarted, start, tick_from, turn, write_raw};
+ghost use Rattle.scenario_replay.specs.Actions.{act, act_all, changes, compact, export, is_change, keep, most, place_of, restarted, start, tick_from, turn, write_raw};
 ghost use Rattle.scenario_replay.specs.Rows.{IsOwnView, IsTold};
 ghost use Rattle.scenario_replay.specs.Shown.{HasSomeWorld, Makes, MakesPlainly};
 
@@ -133,7 +133,7 @@ impl Replay {
     ) -> Result<(), Memory>
         requires world { HasSomeWorld self.old (map S.meaning stores.old) }
         requires place { place_of store ≤ length self.old.remotes.items }
-        ensures done { OnOk result (Makes (changes (compacted (place_of store) upto)) self.old self.new (map S.meaning stores.old) (map S.meaning stores.new)) }
+        ensures done { OnOk result (Makes (compact (place_of store) upto) self.old self.new (map S.meaning stores.old) (map S.meaning stores.new)) }
         ensures same { self.new ≡ self.old }
     {
         let _ = self.reports;

@@ -1,14 +1,11 @@
 // What the agent keeps of one remote: its reader of the remote's store, and the view of what that read.
 ghost use Rattle.std.specs.Prelude.{◌≡◌, ◌≤◌, Ok, OnOk, IfOk, false};
-ghost use Rattle.flaky_link.specs.Link.{linked, loans_of};
+ghost use Rattle.flaky_link.specs.Link.{loans_of};
 ghost use Rattle.store_api.specs.History.{History, revision};
-ghost use Rattle.store_api.specs.Meaning.{Keeps};
 ghost use Rattle.store_api.specs.Spans.{unread};
 ghost use Rattle.store_api.specs.declared.change.Delivery.TheVariants.{Lost};
-ghost use Rattle.reflector.specs.Crossing.{asked};
 ghost use Rattle.relist_merge.specs.Sight.{viewed};
-ghost use Rattle.scenario_replay.specs.Reads.{IsRead, IsTurned};
-ghost use Rattle.scenario_replay.specs.Took.{Took};
+ghost use Rattle.scenario_replay.specs.Reads.{IsRead, Turns};
 
 use flaky_link::{FlakyLink, LinkState};
 use key_paths::{Hop, ranges};
@@ -62,8 +59,7 @@ impl Agent {
         requires there { self.old.reader.is_waiting ≡ false → self.old.reader.cursor ≤ revision (S.meaning link.old.store.now).contents.history }
         ensures source { (viewed self.new.view).source ≡ (viewed self.old.view).source }
         ensures nothing { result ≡ Ok false → (viewed self.new.view).shown.entries ≡ (viewed self.old.view).shown.entries }
-        ensures took { OnOk result (Took (asked self.old.reader) (IsTurned most (S.meaning link.old.store.now).contents.history self.old self.new) (link.old.state.now, S.meaning link.old.store.now) (link.new.state.now, S.meaning link.new.store.now)) }
-        ensures keeps { Keeps (linked link.old.state.now (S.meaning link.old.store.now)) (linked link.new.state.now (S.meaning link.new.store.now)) }
+        ensures turns { OnOk result (Turns most self.old self.new (link.old.state.now, S.meaning link.old.store.now) (link.new.state.now, S.meaning link.new.store.now)) }
         ensures named { S.name link.new.store.now ≡ S.name link.old.store.now }
         ensures loans { loans_of link.new.state.ghost_name link.new.store.ghost_name (S.loans link.new.store.now) ≡ loans_of link.old.state.ghost_name link.old.store.ghost_name (S.loans link.old.store.now) }
     {
@@ -94,7 +90,7 @@ impl Agent {
         requires there { self.old.reader.is_waiting ≡ false → self.old.reader.cursor ≤ revision (S.meaning store.old).contents.history }
         ensures source { (viewed self.new.view).source ≡ (viewed self.old.view).source }
         ensures nothing { result ≡ Ok false → (viewed self.new.view).shown.entries ≡ (viewed self.old.view).shown.entries }
-        ensures took { OnOk result (Took (asked self.old.reader) (IsTurned most (S.meaning store.old).contents.history self.old self.new) (link.old, S.meaning store.old) (link.new, S.meaning store.new)) }
+        ensures turns { OnOk result (Turns most self.old self.new (link.old, S.meaning store.old) (link.new, S.meaning store.new)) }
         ensures named { S.name store.new ≡ S.name store.old }
         ensures loans { S.loans store.new ≡ S.loans store.old }
     {

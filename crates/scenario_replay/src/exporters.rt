@@ -1,9 +1,9 @@
 // The calls that an exporter makes on its store through a link.
-ghost use Rattle.std.specs.Prelude.{◌≡◌, ◌≢◌, ℕ, List, OnOk, None, true};
+ghost use Rattle.std.specs.Prelude.{◌≡◌, ◌≢◌, ℕ, List, OnOk, true};
+ghost use Rattle.exporter.specs.State.{turns};
+ghost use Rattle.exporter.specs.Talks.{export_talk, keep_talk, start_talk};
 ghost use Rattle.flaky_link.specs.Link.{loans_of};
-ghost use Rattle.store_api.specs.Calls.{to_grant};
-ghost use Rattle.scenario_replay.specs.Actions.{started_by};
-ghost use Rattle.scenario_replay.specs.Took.{Exports, Kept, Took};
+ghost use Rattle.scenario_replay.specs.Ways.{CameTo};
 
 use exporter::{ExportFault, Exporter};
 use flaky_link::{FlakyLink, LinkState};
@@ -21,7 +21,7 @@ fn go_on(fault: ExportFault) -> Result<(), Memory>
 }
 
 fn start_over<S: Store>(exporter: &mut Exporter, link: &mut FlakyLink<S>) -> Result<(), Memory>
-    ensures took { OnOk result (Took (to_grant exporter.old.seconds) (λ end contents. exporter.new ≡ started_by end contents exporter.old) (link.old.state.now, S.meaning link.old.store.now) (link.new.state.now, S.meaning link.new.store.now)) }
+    ensures came { OnOk result (CameTo (start_talk exporter.old) exporter.new (link.old.state.now, S.meaning link.old.store.now) (link.new.state.now, S.meaning link.new.store.now)) }
     ensures named { S.name link.new.store.now ≡ S.name link.old.store.now }
     ensures loans { loans_of link.new.state.ghost_name link.new.store.ghost_name (S.loans link.new.store.now) ≡ loans_of link.old.state.ghost_name link.old.store.ghost_name (S.loans link.old.store.now) }
 {
@@ -37,7 +37,7 @@ pub fn start<S: Store>(
     link: &mut LinkState,
     store: &mut S,
 ) -> Result<(), Memory>
-    ensures took { OnOk result (Took (to_grant exporter.old.seconds) (λ end contents. exporter.new ≡ started_by end contents exporter.old) (link.old, S.meaning store.old) (link.new, S.meaning store.new)) }
+    ensures came { OnOk result (CameTo (start_talk exporter.old) exporter.new (link.old, S.meaning store.old) (link.new, S.meaning store.new)) }
     ensures named { S.name store.new ≡ S.name store.old }
     ensures loans { S.loans store.new ≡ S.loans store.old }
 {
@@ -46,8 +46,7 @@ pub fn start<S: Store>(
 }
 
 fn keep_over<S: Store>(exporter: &mut Exporter, link: &mut FlakyLink<S>) -> Result<(), Memory>
-    ensures stopped { OnOk result (exporter.old.lease ≡ None → (exporter.new ≡ exporter.old) × (link.new.state.now ≡ link.old.state.now) × (link.new.store.now ≡ link.old.store.now)) }
-    ensures kept { OnOk result (Kept exporter.old exporter.new (link.old.state.now, S.meaning link.old.store.now) (link.new.state.now, S.meaning link.new.store.now)) }
+    ensures came { OnOk result (CameTo (keep_talk exporter.old) exporter.new (link.old.state.now, S.meaning link.old.store.now) (link.new.state.now, S.meaning link.new.store.now)) }
     ensures named { S.name link.new.store.now ≡ S.name link.old.store.now }
     ensures loans { loans_of link.new.state.ghost_name link.new.store.ghost_name (S.loans link.new.store.now) ≡ loans_of link.old.state.ghost_name link.old.store.ghost_name (S.loans link.old.store.now) }
 {
@@ -64,8 +63,7 @@ pub fn keep<S: Store>(
     link: &mut LinkState,
     store: &mut S,
 ) -> Result<(), Memory>
-    ensures stopped { OnOk result (exporter.old.lease ≡ None → (exporter.new ≡ exporter.old) × (link.new ≡ link.old) × (store.new ≡ store.old)) }
-    ensures kept { OnOk result (Kept exporter.old exporter.new (link.old, S.meaning store.old) (link.new, S.meaning store.new)) }
+    ensures came { OnOk result (CameTo (keep_talk exporter.old) exporter.new (link.old, S.meaning store.old) (link.new, S.meaning store.new)) }
     ensures named { S.name store.new ≡ S.name store.old }
     ensures loans { S.loans store.new ≡ S.loans store.old }
 {
@@ -79,7 +77,7 @@ fn export_over<S: Store>(
     most: u64,
 ) -> Result<(), Memory>
     requires writable { (key : List ℕ) → (S.meaning link.old.store.now).writable key ≡ true }
-    ensures exports { OnOk result (Exports most exporter.old exporter.new (link.old.state.now, S.meaning link.old.store.now) (link.new.state.now, S.meaning link.new.store.now)) }
+    ensures came { OnOk result (CameTo (export_talk (turns most exporter.old) exporter.old) exporter.new (link.old.state.now, S.meaning link.old.store.now) (link.new.state.now, S.meaning link.new.store.now)) }
     ensures named { S.name link.new.store.now ≡ S.name link.old.store.now }
     ensures loans { loans_of link.new.state.ghost_name link.new.store.ghost_name (S.loans link.new.store.now) ≡ loans_of link.old.state.ghost_name link.old.store.ghost_name (S.loans link.old.store.now) }
 {
@@ -97,7 +95,7 @@ pub fn export<S: Store>(
     most: u64,
 ) -> Result<(), Memory>
     requires writable { (key : List ℕ) → (S.meaning store.old).writable key ≡ true }
-    ensures exports { OnOk result (Exports most exporter.old exporter.new (link.old, S.meaning store.old) (link.new, S.meaning store.new)) }
+    ensures came { OnOk result (CameTo (export_talk (turns most exporter.old) exporter.old) exporter.new (link.old, S.meaning store.old) (link.new, S.meaning store.new)) }
     ensures named { S.name store.new ≡ S.name store.old }
     ensures loans { S.loans store.new ≡ S.loans store.old }
 {

@@ -1,14 +1,15 @@
 // What the program keeps of one remote cluster.
-ghost use Rattle.std.specs.Prelude.{◌≡◌, ◌≤◌, ℕ, List, IfOk, OnOk, None, Some, true, Ok, false};
-ghost use Rattle.exporter.specs.State.{after_stop};
-ghost use Rattle.store_api.specs.Calls.{to_grant, to_keep_alive};
+ghost use Rattle.std.specs.Prelude.{◌≡◌, ◌≤◌, ℕ, List, IfOk, OnOk, true, Ok, false};
+ghost use Rattle.exporter.specs.State.{after_stop, turns};
+ghost use Rattle.exporter.specs.Talks.{export_talk, keep_talk, start_talk};
+ghost use Rattle.reflector.specs.Talks.{turn_talk};
 ghost use Rattle.store_api.specs.History.{History};
 ghost use Rattle.store_api.specs.Spans.{unread};
 ghost use Rattle.scenario_lang.specs.declared.scenario.LinkName.TheVariants as link;
 ghost use Rattle.relist_merge.specs.Sight.{viewed};
-ghost use Rattle.scenario_replay.specs.Actions.{asked, kept_by, started_by, turned_by, when_of, with_failure, with_way};
+ghost use Rattle.scenario_replay.specs.Actions.{came_to, when_of, with_failure, with_way};
 ghost use Rattle.scenario_replay.specs.Rows.{IsOwnView};
-ghost use Rattle.scenario_replay.specs.Shown.{Asks, Changes, IsShown, IsSome, Writes};
+ghost use Rattle.scenario_replay.specs.Shown.{Changes, IsShown, IsSome, Speaks};
 ghost use Rattle.scenario_replay.specs.World.{new_remote, with_exporter, with_link, with_reader};
 
 use crate::agent::Agent;
@@ -61,7 +62,7 @@ impl Remote {
 impl Remote {
     /// Starts the exporter.
     pub fn start<S: Store>(&mut self, store: &mut S) -> Result<(), Memory>
-        ensures asks { OnOk result (Asks link.Exporter (λ w. to_grant w.exporter.seconds) (λ end contents. with_exporter (started_by end contents)) self.old self.new (S.meaning store.old) (S.meaning store.new)) }
+        ensures speaks { OnOk result (Speaks link.Exporter (λ w. start_talk w.exporter) came_to self.old self.new (S.meaning store.old) (S.meaning store.new)) }
         ensures agent { self.new.agent ≡ self.old.agent }
         ensures named { S.name store.new ≡ S.name store.old }
         ensures loans { S.loans store.new ≡ S.loans store.old }
@@ -71,8 +72,7 @@ impl Remote {
 
     /// Keeps the exporter's lease alive; without a lease no call is made.
     pub fn keep<S: Store>(&mut self, store: &mut S) -> Result<(), Memory>
-        ensures stopped { OnOk result (self.old.exporter.lease ≡ None → (store.new ≡ store.old) × Changes (λ w. w) self.old self.new) }
-        ensures asks { OnOk result ((lease : ℕ) → self.old.exporter.lease ≡ Some lease → Asks link.Exporter (λ w. to_keep_alive lease) (λ end contents. with_exporter (kept_by end)) self.old self.new (S.meaning store.old) (S.meaning store.new)) }
+        ensures speaks { OnOk result (Speaks link.Exporter (λ w. keep_talk w.exporter) came_to self.old self.new (S.meaning store.old) (S.meaning store.new)) }
         ensures agent { self.new.agent ≡ self.old.agent }
         ensures named { S.name store.new ≡ S.name store.old }
         ensures loans { S.loans store.new ≡ S.loans store.old }
@@ -83,7 +83,7 @@ impl Remote {
     /// Writes at most so many items of the exporter's queue.
     pub fn export<S: Store>(&mut self, store: &mut S, most: u64) -> Result<(), Memory>
         requires writable { (key : List ℕ) → (S.meaning store.old).writable key ≡ true }
-        ensures writes { OnOk result (Writes most self.old self.new (S.meaning store.old) (S.meaning store.new)) }
+        ensures speaks { OnOk result (Speaks link.Exporter (λ w. export_talk (turns most w.exporter) w.exporter) came_to self.old self.new (S.meaning store.old) (S.meaning store.new)) }
         ensures agent { self.new.agent ≡ self.old.agent }
         ensures named { S.name store.new ≡ S.name store.old }
         ensures loans { S.loans store.new ≡ S.loans store.old }
@@ -101,7 +101,7 @@ impl Remote {
     ) -> Result<bool, Memory>
         requires some { 1 ≤ most }
         requires shown { IsSome (S.meaning store.old).contents.history self.old }
-        ensures asks { OnOk result (Asks link.Agent (λ w. asked w.reader) (λ end contents. with_reader (turned_by most end contents)) self.old self.new (S.meaning store.old) (S.meaning store.new)) }
+        ensures speaks { OnOk result (Speaks link.Agent (λ w. turn_talk most w.reader) (λ read. with_reader (λ r. read)) self.old self.new (S.meaning store.old) (S.meaning store.new)) }
         ensures source { (viewed self.new.agent.view).source ≡ (viewed self.old.agent.view).source }
         ensures nothing { result ≡ Ok false → (viewed self.new.agent.view).shown.entries ≡ (viewed self.old.agent.view).shown.entries }
         ensures named { S.name store.new ≡ S.name store.old }

@@ -1,11 +1,8 @@
 // The calls that are made straight on a store, without a link.
 ghost use Rattle.std.specs.Prelude.{◌≡◌, ℕ, List, OnOk, IfOk, ◌∷◌, [], true};
-ghost use Rattle.store_api.specs.Contents.{after_compact};
-ghost use Rattle.store_api.specs.Calls.{to_commit};
-ghost use Rattle.store_api.specs.Meaning.{Keeps, Makes};
+ghost use Rattle.flaky_link.specs.Crossed.{IsAsked};
+ghost use Rattle.store_api.specs.Calls.{Answers, Called, to_commit, to_compact, to_tick};
 ghost use Rattle.scenario_replay.specs.Actions.{raw_op};
-ghost use Rattle.store_api.specs.Calls.{to_tick};
-ghost use Rattle.scenario_replay.specs.Took.{Answered};
 
 use mesh_base::Memory;
 use scenario_lang::RawWrite;
@@ -29,7 +26,7 @@ fn raw_op(write: &RawWrite) -> Result<Op, Memory>
 /// Commits one operation. A lost call is no refusal.
 pub fn write_raw<S: Store>(alloc: Global, store: &mut S, write: &RawWrite) -> Result<(), Memory>
     requires writable { (key : List ℕ) → (S.meaning store.old).writable key ≡ true }
-    ensures answered { OnOk result (Answered (to_commit (raw_op write.now ∷ [])) (S.meaning store.old) (S.meaning store.new)) }
+    ensures asked { OnOk result (IsAsked (to_commit (raw_op write.now ∷ [])) (S.meaning store.old) (S.meaning store.new)) }
     ensures named { S.name store.new ≡ S.name store.old }
     ensures loans { S.loans store.new ≡ S.loans store.old }
 {
@@ -43,7 +40,7 @@ pub fn write_raw<S: Store>(alloc: Global, store: &mut S, write: &RawWrite) -> Re
 
 /// Moves the clock on by so many seconds. A lost call is no refusal.
 pub fn tick<S: StoreAdmin>(alloc: Global, store: &mut S, seconds: u64) -> Result<(), Memory>
-    ensures answered { OnOk result (Answered (to_tick seconds) (S.meaning store.old) (S.meaning store.new)) }
+    ensures asked { OnOk result (IsAsked (to_tick seconds) (S.meaning store.old) (S.meaning store.new)) }
     ensures named { S.name store.new ≡ S.name store.old }
     ensures loans { S.loans store.new ≡ S.loans store.old }
 {
@@ -55,8 +52,7 @@ pub fn tick<S: StoreAdmin>(alloc: Global, store: &mut S, seconds: u64) -> Result
 
 /// Compacts the history up to this revision.
 pub fn compact<S: StoreAdmin>(alloc: Global, store: &mut S, upto: u64) -> Result<(), Memory>
-    ensures made { OnOk result (Makes (S.meaning store.old) (S.meaning store.new) (after_compact upto)) }
-    ensures keeps { Keeps (S.meaning store.old) (S.meaning store.new) }
+    ensures called { OnOk result (Called (to_compact upto) Answers (S.meaning store.old) (S.meaning store.new)) }
     ensures named { S.name store.new ≡ S.name store.old }
     ensures loans { S.loans store.new ≡ S.loans store.old }
 {

@@ -5,7 +5,7 @@ ghost use Rattle.scenario_lang.specs.Valid.{IsValid};
 ghost use Rattle.scenario_lang.specs.declared.kinds.LineKind.{LineKind};
 ghost use Rattle.scenario_lang.specs.declared.kinds.Mode.TheVariants as mode;
 ghost use Rattle.store_api.specs.Streams.{HasFailed, HoldsFront, HoldsMore};
-ghost use Rattle.scenario_replay.specs.Goes.{IsOpen};
+ghost use Rattle.scenario_replay.specs.Goes.{IsOpen, NumberInTurn};
 ghost use Rattle.scenario_replay.specs.Program.{NoneFailed, Ran, RanPlainly, Reports, TookEnough, TurnsEndWhole, WroteSome, is_step, refusal_line, usage_line};
 
 use crate::input::{Unread, read_input};
@@ -66,7 +66,7 @@ pub fn mesh_steps<R: Source, W: Sink, S: StoreAdmin>(
 
     // Where no store failed, they and the stores' contents are a function of the scenario and the first
     // contents.
-    ensures plain { result ≡ Status.Done → NoneFailed (map S.meaning stores.old) (map S.meaning stores.new) → IfSome (R.left source.old) (λ input. RanPlainly input (map S.meaning stores.old) (map S.meaning stores.new) (W.holds sink.old) (W.holds sink.new)) }
+    ensures plain { result ≡ Status.Done → NumberInTurn (map S.meaning stores.old) → NoneFailed (map S.meaning stores.old) (map S.meaning stores.new) → IfSome (R.left source.old) (λ input. RanPlainly input (map S.meaning stores.old) (map S.meaning stores.new) (W.holds sink.old) (W.holds sink.new)) }
 
     // A turn without a limit that is not refused ends at its store's revision, and is caught up there
     // where the store is synced.

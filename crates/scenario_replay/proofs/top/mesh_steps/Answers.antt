@@ -13,9 +13,9 @@ returns-in-Err-Failed-write_refusal-clause-front g c = λ fault_is.
     refused_front (g.R.Source.left c.args.source.now) (map string_bytes c.args.words.now) (map m c.args.stores.now) (map m c.args.stores.now) (g.W.Sink.holds c.args.sink.now) (g.W.Sink.holds c.write_refusal.new.sink) c.in-Err-Refused.fault (read.refused c.in-Err-Refused.fault refl) (wrote.failed refl).1
 
 pub returns-in-Ok-write_all-clause-plain : goal.returns-in-Ok-write_all-clause-plain
-returns-in-Ok-write_all-clause-plain g c = λ done_is still.
+returns-in-Ok-write_all-clause-plain g c = λ done_is numbers still.
     let m = g.S.Store.meaning in
     let held = g.W.Sink.holds c.args.sink.now in
     let holds = g.W.Sink.holds c.write_all-2.new.sink in
     ran_plainly (g.R.Source.left c.args.source.now) c.in-Ok-read_input.scenario (map m c.args.stores.now) (map m c.run.new.stores) held holds c.in-Ok-run.text c.in-Ok-read_input.ensures.read c.in-Ok-run.ensures.reports
-    (subst (λ (t : List ℕ). HoldsMore held holds t) c.as_slice.ensures c.in-Ok-write_all.ensures.ok) still
+    (subst (λ (t : List ℕ). HoldsMore held holds t) c.as_slice.ensures c.in-Ok-write_all.ensures.ok) numbers still

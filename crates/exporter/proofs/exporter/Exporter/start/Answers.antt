@@ -1,11 +1,12 @@
-use Rattle.std.proofs.Common.{ℕ, Err, ap, subst, inr}
-use Rattle.store_api.specs.Calls.{ending_of, to_grant}
-use Rattle.store_api.specs.declared.change.StoreFault.{StoreFault}
+use Rattle.std.proofs.Common.{◌∙◌, ℕ, ap}
+use Rattle.store_api.specs.Calls.{Crosses, Answers, to_grant}
+use Rattle.exporter.specs.State.{after_start}
+use Rattle.exporter.proofs.Talking.{start_answered}
 use Rattle.exporter.proofs.exporter.Exporter.start.Goals as goal
 
-pub returns-in-Err-Lost-clause-crossed : goal.returns-in-Err-Lost-clause-crossed
-returns-in-Err-Lost-clause-crossed g c = rw (← c.self.view_is) (inr (record {
-  crossed = subst (λ (fault : StoreFault). g.S.Store.crossed c.args.store.now c.grant.new.self (to_grant c.self.inside.seconds) (ending_of ℕ (Err fault))) c.in-Err-Lost.field-0-is c.in-Err-Lost.ensures.crossed;
-  does = c.in-Err-Lost.ensures.lost (ap Err c.in-Err-Lost.field-0-is);
-  keeps = c.grant.ensures.keeps;
-}))
+pub returns-in-Ok-clause-talk : goal.returns-in-Ok-clause-talk
+returns-in-Ok-clause-talk g c told =
+    let sees = g.S.Store.meaning in
+    let through = g.S.Store.crossed in
+    let call : Crosses sees through (to_grant c.args.self.now.seconds) Answers c.args.store.now c.grant.new.self = rw (← c.self.view_is) (record { crossed = c.in-Ok.ensures.crossed; called = c.in-Ok.ensures.call }) in
+    start_answered sees through c.args.self.now c.begin.new.self c.args.store.now c.grant.new.self (c.begin.ensures ∙ ap (λ (n : ℕ). after_start n c.args.self.now) c.in-Ok.ensures.number) call

@@ -1,9 +1,12 @@
 use Rattle.std.proofs.Common.{refl}
 use Rattle.std.proofs.lemmas.Result.{on_ok_weaker}
-use Rattle.scenario_replay.proofs.Remotes.{wrote_exporter}
+use Rattle.exporter.specs.State.{turns}
+use Rattle.exporter.specs.Talks.{export_talk}
+use Rattle.scenario_replay.proofs.Remotes.{spoke_exporter}
+use Rattle.scenario_replay.proofs.Ways.{export_same}
 use Rattle.scenario_replay.proofs.remote.Remote.export.Goals as goal
 
-pub returns-clause-writes : goal.returns-clause-writes
-returns-clause-writes g c = on_ok_weaker c.export.result
-    (λ exports w shown. wrote_exporter (g.S.Store.meaning c.args.store.now) (g.S.Store.meaning c.export.new.store) w c.args.self.now _ shown c.args.most exports refl refl refl)
-    c.export.ensures.exports
+pub returns-clause-speaks : goal.returns-clause-speaks
+returns-clause-speaks g c = on_ok_weaker c.export.result
+    (λ came w shown. spoke_exporter (g.S.Store.meaning c.args.store.now) (g.S.Store.meaning c.export.new.store) w c.args.self.now _ shown (λ s. export_talk (turns c.args.most s) s) (λ s. export_same (turns c.args.most s) s) came refl refl refl)
+    c.export.ensures.came

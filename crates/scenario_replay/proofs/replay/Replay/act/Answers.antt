@@ -1,7 +1,7 @@
 use Rattle.std.proofs.Common.{ℕ, ◌+◌, ap, length, map, refl, sym}
 use Rattle.indexmap.proofs.MapLemmas.{OnOk-map}
 use Rattle.scenario_lang.specs.declared.scenario.Action.TheVariants as action
-use Rattle.scenario_replay.specs.Actions.{changes, compacted, export, keep, place_of, reported, restarted, start, tick_from, turn, write_raw}
+use Rattle.scenario_replay.specs.Actions.{changes, compact, export, keep, place_of, reported, restarted, start, tick_from, turn, write_raw}
 use Rattle.scenario_replay.specs.World.{World}
 use Rattle.scenario_replay.proofs.Acts.{act_as}
 use Rattle.scenario_replay.proofs.SourcesTold.{own_views}
@@ -53,7 +53,7 @@ pub returns-in-Compact-clause-done : goal.returns-in-Compact-clause-done
 returns-in-Compact-clause-done g c =
     let m = g.S.Store.meaning in
     OnOk-map c.compact.result _ _
-    (λ makes. act_as c.args.action.now (action.Compact c.in-Compact.store c.in-Compact.revision) (changes (compacted (place_of c.in-Compact.store) c.in-Compact.revision)) c.args.self.now c.compact.new.self (map m c.args.stores.now) (map m c.compact.new.stores) c.in-Compact.is (λ w os. refl) makes)
+    (λ makes. act_as c.args.action.now (action.Compact c.in-Compact.store c.in-Compact.revision) (compact (place_of c.in-Compact.store) c.in-Compact.revision) c.args.self.now c.compact.new.self (map m c.args.stores.now) (map m c.compact.new.stores) c.in-Compact.is (λ w os. refl) makes)
     c.compact.ensures.done
 
 pub returns-in-RestartAgent-clause-done : goal.returns-in-RestartAgent-clause-done

@@ -1,15 +1,18 @@
 use Rattle.std.proofs.Common.{ap, refl}
 use Rattle.std.specs.Vec.{with_item}
-use Rattle.scenario_replay.proofs.Asked.{done_kept}
+use Rattle.exporter.specs.Talks.{keep_talk}
+use Rattle.scenario_lang.specs.declared.scenario.LinkName.TheVariants as link
+use Rattle.scenario_replay.specs.Actions.{came_to}
+use Rattle.scenario_replay.proofs.Talks.{done_spoken}
 use Rattle.scenario_replay.specs.declared.agent.Agent.{Agent}
 use Rattle.scenario_replay.proofs.Sightings.{kept_tables}
 use Rattle.scenario_replay.proofs.replay.Replay.keep.Goals as goal
 
 pub returns : goal.returns
 returns g c = record {
-  done = done_kept g.S.Store.meaning c.args.stores.now c.args.remote c.index-stores-remote.result c.keep.new.store c.args.self.now
+  done = done_spoken g.S.Store.meaning c.args.stores.now c.args.remote c.index-stores-remote.result c.keep.new.store c.args.self.now
       (record c.args.self.now { remotes = with_item c.args.self.now.remotes c.args.remote c.keep.new.self })
       c.index_mut.result.now c.keep.new.self c.requires.remote c.index_mut.ensures.value
-      (record { local = refl; number = refl; remotes = refl; reports = refl; text = refl }) c.keep.result c.keep.ensures.stopped c.keep.ensures.asks;
+      (record { local = refl; number = refl; remotes = refl; reports = refl; text = refl }) link.Exporter (λ l r. refl) (λ r. keep_talk r.exporter) came_to c.keep.result c.keep.ensures.speaks;
   told = kept_tables c.args.self.now.number c.args.self.now.remotes.items c.args.self.now.sighting c.args.remote c.index_mut.result.now c.keep.new.self c.index_mut.ensures.value (ap (λ (a : Agent). a.view) c.keep.ensures.agent) c.requires.told;
 }

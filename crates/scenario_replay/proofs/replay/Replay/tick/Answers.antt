@@ -15,7 +15,7 @@ offset_bounds-stores-place g c =
 
 pub loop-place-preserved : goal.loop-place-preserved
 loop-place-preserved g c = λ w has.
-    ticked_more g.S.Store.meaning c.args.stores.now c.loop-place.stores c.args.self.now c.loop-place.place (length c.args.self.now.remotes.items + 1) c.args.seconds c.index-stores-place.result c.tick.new.store (omega arith) (omega arith) c.in_ok-tick.ensures.answered w (c.loop-place.invariant w has)
+    ticked_more g.S.Store.meaning c.args.stores.now c.loop-place.stores c.args.self.now c.loop-place.place (length c.args.self.now.remotes.items + 1) c.args.seconds c.index-stores-place.result c.tick.new.store (omega arith) (omega arith) c.in_ok-tick.ensures.asked w (c.loop-place.invariant w has)
 
 pub returns-clause-done : goal.returns-clause-done
 returns-clause-done g c = λ w has. ticked_all g.S.Store.meaning c.args.stores.now c.loop-place.stores c.args.self.now c.loop-place.place (length c.args.self.now.remotes.items + 1) c.args.seconds (omega arith) refl w has (c.loop-place.invariant w has)

@@ -1,10 +1,13 @@
 use Rattle.std.proofs.Common.{Ok, ap, ◌<◌, ◌≤◌, ℕ, List, length, refl, subst, sym, arith}
 use Rattle.std.proofs.lemmas.List.{length-set}
 use Rattle.std.specs.Vec.{with_item}
+use Rattle.reflector.specs.Talks.{turn_talk}
+use Rattle.scenario_lang.specs.declared.scenario.LinkName.TheVariants as link
 use Rattle.shared_tables.specs.Told.{told}
 use Rattle.scenario_replay.specs.Rows.{HasTables}
+use Rattle.scenario_replay.specs.World.{with_reader}
 use Rattle.scenario_replay.specs.declared.remote.Remote.{Remote}
-use Rattle.scenario_replay.proofs.Asked.{makes_turned}
+use Rattle.scenario_replay.proofs.Talks.{makes_spoken}
 use Rattle.scenario_replay.proofs.Sightings.{changed_tables, same_tables, sources_many}
 use Rattle.scenario_replay.proofs.Worlds.{shown_some}
 use Rattle.scenario_replay.proofs.replay.Replay.turn.Goals as goal
@@ -35,10 +38,10 @@ tell-requires-clause-tables g c = (
 
 pub returns-in_ok-tell-clause-done : goal.returns-in_ok-tell-clause-done
 returns-in_ok-tell-clause-done g c =
-    makes_turned g.S.Store.meaning c.args.stores.now c.args.remote c.index-stores-remote.result c.turn.new.store c.args.self.now
+    makes_spoken g.S.Store.meaning c.args.stores.now c.args.remote c.index-stores-remote.result c.turn.new.store c.args.self.now
     (record c.args.self.now { remotes = with_item c.args.self.now.remotes c.args.remote c.turn.new.self; sighting = c.tell.new.self })
     c.index_mut.result.now c.turn.new.self c.requires.remote c.index_mut.ensures.value
-    (record { local = refl; number = refl; remotes = refl; reports = refl; text = refl }) c.args.most c.in_ok-turn.ensures.asks
+    (record { local = refl; number = refl; remotes = refl; reports = refl; text = refl }) link.Agent (λ l r. refl) (λ r. turn_talk c.args.most r.reader) (λ read. with_reader (λ r. read)) c.in_ok-turn.ensures.speaks
 
 pub returns-in_ok-tell-clause-told : goal.returns-in_ok-tell-clause-told
 returns-in_ok-tell-clause-told g c =
@@ -49,10 +52,10 @@ returns-in_ok-tell-clause-told g c =
 
 pub returns-else-lists-clause-done : goal.returns-else-lists-clause-done
 returns-else-lists-clause-done g c =
-    makes_turned g.S.Store.meaning c.args.stores.now c.args.remote c.index-stores-remote.result c.turn.new.store c.args.self.now
+    makes_spoken g.S.Store.meaning c.args.stores.now c.args.remote c.index-stores-remote.result c.turn.new.store c.args.self.now
     (record c.args.self.now { remotes = with_item c.args.self.now.remotes c.args.remote c.turn.new.self; sighting = c.forget.new.self })
     c.index_mut.result.now c.turn.new.self c.requires.remote c.index_mut.ensures.value
-    (record { local = refl; number = refl; remotes = refl; reports = refl; text = refl }) c.args.most c.in_ok-turn.ensures.asks
+    (record { local = refl; number = refl; remotes = refl; reports = refl; text = refl }) link.Agent (λ l r. refl) (λ r. turn_talk c.args.most r.reader) (λ read. with_reader (λ r. read)) c.in_ok-turn.ensures.speaks
 
 pub returns-else-lists-clause-told : goal.returns-else-lists-clause-told
 returns-else-lists-clause-told g c =
@@ -60,10 +63,10 @@ returns-else-lists-clause-told g c =
 
 pub returns-then-not-branch-clause-done : goal.returns-then-not-branch-clause-done
 returns-then-not-branch-clause-done g c =
-    makes_turned g.S.Store.meaning c.args.stores.now c.args.remote c.index-stores-remote.result c.turn.new.store c.args.self.now
+    makes_spoken g.S.Store.meaning c.args.stores.now c.args.remote c.index-stores-remote.result c.turn.new.store c.args.self.now
     (record c.args.self.now { remotes = with_item c.args.self.now.remotes c.args.remote c.turn.new.self })
     c.index_mut.result.now c.turn.new.self c.requires.remote c.index_mut.ensures.value
-    (record { local = refl; number = refl; remotes = refl; reports = refl; text = refl }) c.args.most c.in_ok-turn.ensures.asks
+    (record { local = refl; number = refl; remotes = refl; reports = refl; text = refl }) link.Agent (λ l r. refl) (λ r. turn_talk c.args.most r.reader) (λ read. with_reader (λ r. read)) c.in_ok-turn.ensures.speaks
 
 pub returns-then-not-branch-clause-told : goal.returns-then-not-branch-clause-told
 returns-then-not-branch-clause-told g c =
