@@ -1,5 +1,5 @@
 ghost use Rattle.std.specs.Prelude.{◌≡◌, length, map, All};
-ghost use Rattle.scenario_replay.specs.Goes.{IsOpen};
+ghost use Rattle.mesh_world.specs.Goes.{IsOpen};
 
 mod bytewise;
 mod journals;

@@ -1,6 +1,6 @@
 // Stores in memory that lose calls by a plan.
 ghost use Rattle.std.specs.Prelude.{◌≡◌, ◌+◌, length, map, All, IfOk, if◌then◌else◌, is_some};
-ghost use Rattle.scenario_replay.specs.Goes.{IsOpen};
+ghost use Rattle.mesh_world.specs.Goes.{IsOpen};
 ghost use Rattle.scenario_cases.specs.Losing.{losing};
 
 use memory_store::MemoryStore;

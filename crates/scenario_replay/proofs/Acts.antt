@@ -3,13 +3,13 @@ use Rattle.std.proofs.Common.{◌≡◌, ℕ, ◌+◌, ◌<◌, List, ◌∷◌,
 use Rattle.std.proofs.Math.Seq.{drop-cons}
 use Rattle.scenario_lang.specs.declared.scenario.Action.{Action}
 use Rattle.store_api.specs.Meaning.{Meaning}
-use Rattle.scenario_replay.specs.Actions.{Does, act, act_all}
-use Rattle.scenario_replay.specs.Asking.{Outcome, done}
-use Rattle.scenario_replay.specs.Goes.{Goes}
+use Rattle.mesh_world.specs.Actions.{Does, act, act_all}
+use Rattle.mesh_world.specs.Asking.{Outcome, done}
+use Rattle.mesh_world.specs.Goes.{Goes}
 use Rattle.scenario_replay.specs.Shown.{HasWorld, Makes}
-use Rattle.scenario_replay.specs.World.{World}
+use Rattle.mesh_world.specs.World.{World}
 use Rattle.scenario_replay.specs.declared.replay.Replay.{Replay}
-use Rattle.scenario_replay.proofs.Runs.{Goes-act, Goes-as, Goes-trans}
+use Rattle.mesh_world.proofs.Runs.{Goes-act, Goes-as, Goes-trans}
 
 -- the action is one that does this
 pub act_as : (a b : Action) (does : Does) (old new : Replay) (before after : List Meaning) → a ≡ b → ((w : World) (os : List Outcome) → act b w os ≡ does w os) → Makes does old new before after → Makes (act a) old new before after

@@ -7,16 +7,16 @@ use Rattle.scenario_lang.specs.declared.scenario.RawWrite.{RawWrite}
 use Rattle.store_api.specs.Contents.{after_compact}
 use Rattle.store_api.specs.Calls.{Request, Called, Answers, to_commit, to_compact, to_tick}
 use Rattle.store_api.specs.Meaning.{Meaning}
-use Rattle.scenario_replay.specs.Actions.{compact, raw_op, tick_from, write_raw}
-use Rattle.scenario_replay.specs.Asking.{Step, ask, ask_surely, done}
-use Rattle.scenario_replay.specs.Goes.{Goes, Leads}
+use Rattle.mesh_world.specs.Actions.{compact, raw_op, tick_from, write_raw}
+use Rattle.mesh_world.specs.Asking.{Step, ask, ask_surely, done}
+use Rattle.mesh_world.specs.Goes.{Goes, Leads}
 use Rattle.scenario_replay.specs.Shown.{HasWorld, Makes}
-use Rattle.scenario_replay.specs.World.{World, store_of}
+use Rattle.mesh_world.specs.World.{World, store_of}
 use Rattle.scenario_replay.specs.declared.replay.Replay.{Replay}
-use Rattle.scenario_replay.proofs.Talks.{on_ok}
-use Rattle.scenario_replay.proofs.Calls.{Beside, asks, asks_surely}
-use Rattle.scenario_replay.proofs.Links.{some_heard}
-use Rattle.scenario_replay.proofs.Runs.{Goes-as, Goes-none, Goes-trans, Goes-weaken}
+use Rattle.scenario_replay.proofs.Spoken.{on_ok}
+use Rattle.mesh_world.proofs.Calls.{Beside, asks, asks_surely}
+use Rattle.mesh_world.proofs.Links.{some_heard}
+use Rattle.mesh_world.proofs.Runs.{Goes-as, Goes-none, Goes-trans, Goes-weaken}
 use Rattle.scenario_replay.proofs.Worlds.{beside_has, element_at, place_open, place_within, remotes_many}
 
 module _ (w : World) (replay : Replay) (stores : List Meaning) (has : HasWorld w replay stores) (place : ℕ) (le : place ≤ length replay.remotes.items) (d m : Meaning) where

@@ -13,12 +13,13 @@ use Rattle.scenario_lang.specs.declared.scenario.Remote as said
 use Rattle.store_api.specs.Contents.{Contents}
 use Rattle.store_api.specs.History.{History}
 use Rattle.store_api.specs.Meaning.{Meaning}
-use Rattle.scenario_replay.specs.Goes.{IsOpen}
-use Rattle.scenario_replay.specs.Program.{contents_of}
-use Rattle.scenario_replay.specs.Rows.{IsOwnView}
-use Rattle.scenario_replay.specs.Shown.{AreNew, AreShown, HasWorld, IsShown}
-use Rattle.scenario_replay.specs.World.{first_world, new_remote, seconds_by, seconds_of}
-use Rattle.scenario_replay.specs.declared.remote.Remote.{Remote}
+use Rattle.mesh_world.specs.Goes.{IsOpen}
+use Rattle.mesh_world.specs.Runs.{contents_of}
+use Rattle.mesh_remote.specs.Shown.{IsOwnView}
+use Rattle.mesh_remote.specs.Shown.{IsShown}
+use Rattle.scenario_replay.specs.Shown.{AreNew, AreShown, HasWorld}
+use Rattle.mesh_world.specs.World.{first_world, new_remote, seconds_by, seconds_of}
+use Rattle.mesh_remote.specs.declared.remote.Remote.{Remote}
 use Rattle.scenario_replay.specs.declared.replay.Replay.{Replay}
 use Rattle.scenario_replay.proofs.Changes.{cluster_of}
 

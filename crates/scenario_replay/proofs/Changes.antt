@@ -12,15 +12,16 @@ use Rattle.scenario_lang.specs.declared.scenario.LinkName.{LinkName}
 use Rattle.scenario_lang.specs.declared.scenario.LinkName.TheVariants as link
 use Rattle.flaky_link.specs.Link.{Link}
 use Rattle.store_api.specs.Contents.{Contents, empty_contents}
-use Rattle.scenario_replay.specs.Actions.{Does}
-use Rattle.scenario_replay.specs.Asking.{Outcome}
-use Rattle.scenario_replay.specs.Shown.{AreShown, Changes, HasWorld, IsShown, MakesPlainly}
-use Rattle.scenario_replay.specs.World as world
-use Rattle.scenario_replay.specs.World.{World, at_remote, no_remote, with_link}
-use Rattle.scenario_replay.specs.declared.remote.Remote.{Remote}
+use Rattle.mesh_world.specs.Actions.{Does}
+use Rattle.mesh_world.specs.Asking.{Outcome}
+use Rattle.mesh_remote.specs.Shown.{Changes, IsShown}
+use Rattle.scenario_replay.specs.Shown.{AreShown, HasWorld, MakesPlainly}
+use Rattle.mesh_world.specs.World as world
+use Rattle.mesh_world.specs.World.{World, at_remote, no_remote, with_link}
+use Rattle.mesh_remote.specs.declared.remote.Remote.{Remote}
 use Rattle.scenario_replay.specs.declared.replay.Replay.{Replay}
 use Rattle.scenario_replay.proofs.Places.{as_many, shown_at}
-use Rattle.scenario_replay.proofs.Runs.{Leads-none}
+use Rattle.mesh_world.proofs.Runs.{Leads-none}
 
 abbrev pub cluster_of : Remote → List ℕ
 cluster_of r = r.exporter.cluster

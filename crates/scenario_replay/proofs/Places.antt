@@ -2,11 +2,12 @@
 use Rattle.std.proofs.Common.{◌≡◌, ℕ, zero, suc, ◌+◌, ◌<◌, List, [], ◌∷◌, length, drop, get_or, refl, ap, subst, arith}
 use Rattle.std.proofs.Math.ListN.{set}
 use Rattle.store_api.specs.Contents.{Contents}
-use Rattle.scenario_replay.proofs.Remotes.{read_later}
+use Rattle.mesh_remote.proofs.Remotes.{read_later}
 use Rattle.store_api.specs.History.{Begins, History}
-use Rattle.scenario_replay.specs.Shown.{AreShown, IsShown}
-use Rattle.scenario_replay.specs.World as world
-use Rattle.scenario_replay.specs.declared.remote.Remote.{Remote}
+use Rattle.mesh_remote.specs.Shown.{IsShown}
+use Rattle.scenario_replay.specs.Shown.{AreShown}
+use Rattle.mesh_world.specs.World as world
+use Rattle.mesh_remote.specs.declared.remote.Remote.{Remote}
 
 -- as many remotes as the world has, and a store for each
 pub as_many : (cs : List Contents) (ws : List world.Remote) (rs : List Remote) → AreShown cs ws rs → length ws ≡ length rs

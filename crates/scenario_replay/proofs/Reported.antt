@@ -18,12 +18,13 @@ use Rattle.shared_tables.specs.declared.rows.SourceRow.{SourceRow}
 use Rattle.shared_tables.proofs.CallerLemmas.{SameRows-refl}
 use Rattle.store_api.specs.Contents.{Contents}
 use Rattle.store_api.specs.History.{History}
-use Rattle.scenario_replay.specs.Actions.{changes, reported}
-use Rattle.scenario_replay.specs.Shown.{AreShown, IsShown, MakesPlainly}
-use Rattle.scenario_replay.specs.Sources.{IsReportOf, of_each, report_of, sets_in, sighted_set, source_row, state_of}
-use Rattle.scenario_replay.specs.World.{World}
-use Rattle.scenario_replay.specs.World as world
-use Rattle.scenario_replay.specs.declared.remote.Remote.{Remote}
+use Rattle.mesh_world.specs.Actions.{changes, reported}
+use Rattle.mesh_remote.specs.Shown.{IsShown}
+use Rattle.scenario_replay.specs.Shown.{AreShown, MakesPlainly}
+use Rattle.mesh_world.specs.Sources.{IsReportOf, of_each, report_of, sets_in, sighted_set, source_row, state_of}
+use Rattle.mesh_world.specs.World.{World}
+use Rattle.mesh_world.specs.World as world
+use Rattle.mesh_remote.specs.declared.remote.Remote.{Remote}
 use Rattle.scenario_replay.specs.declared.replay.Replay.{Replay}
 use Rattle.scenario_replay.specs.declared.sighting.Sighting.{Sighting}
 

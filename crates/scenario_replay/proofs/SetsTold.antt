@@ -31,8 +31,9 @@ use Rattle.shared_tables.specs.RecordSets.{ConfigSaid, Reading, RecordSet, is_re
 use Rattle.shared_tables.specs.Told.{IsConfig, IsRow, SourceTold, Told, nothing_told, readings, with_config}
 use Rattle.store_api.specs.History.{Pairing}
 use Rattle.store_api.specs.Sets.{seen_set}
-use Rattle.scenario_replay.specs.Rows.{AreFirst, IsToldOf, IsViewOf, TellsSource, entry_of, row_of, with_records}
-use Rattle.scenario_replay.specs.Sources.{state_of}
+use Rattle.mesh_remote.specs.Shown.{IsViewOf}
+use Rattle.scenario_replay.specs.Rows.{AreFirst, IsToldOf, TellsSource, entry_of, row_of, with_records}
+use Rattle.mesh_world.specs.Sources.{state_of}
 use Rattle.relist_merge.specs.declared.view.View.{View}
 use Rattle.scenario_replay.proofs.SightedPairs.{get-seen_set}
 use Rattle.scenario_replay.proofs.SourcesTold.{changed-twice}

@@ -15,12 +15,13 @@ use Rattle.shared_tables.specs.Told.{SourceTold, Told, changed_at, nothing_told,
 use Rattle.shared_tables.specs.declared.rows.Report.{Report}
 use Rattle.shared_tables.specs.declared.tables.Tables.{Tables}
 use Rattle.store_api.specs.Contents.{Contents}
-use Rattle.scenario_replay.specs.Rows.{AreMarked, AreSources, HasEntriesOf, HasTables, IsOwnView, IsSource, IsToldOf, IsViewOf, TellsSource}
+use Rattle.mesh_remote.specs.Shown.{IsOwnView, IsViewOf}
+use Rattle.scenario_replay.specs.Rows.{AreMarked, AreSources, HasEntriesOf, HasTables, IsSource, IsToldOf, TellsSource}
 use Rattle.scenario_replay.specs.Shown.{AreShown}
-use Rattle.scenario_replay.specs.Sources.{of_each, sighted_set}
-use Rattle.scenario_replay.specs.World as world
+use Rattle.mesh_world.specs.Sources.{of_each, sighted_set}
+use Rattle.mesh_world.specs.World as world
 use Rattle.relist_merge.specs.declared.view.View.{View}
-use Rattle.scenario_replay.specs.declared.remote.Remote.{Remote}
+use Rattle.mesh_remote.specs.declared.remote.Remote.{Remote}
 use Rattle.scenario_replay.specs.declared.sighting.Sighting.{Sighting}
 use Rattle.scenario_replay.proofs.Reported.{merge_as}
 use Rattle.scenario_replay.proofs.SourcesTold.{changed-there, changed-twice, length-changed, one_of, own_at, some_there}

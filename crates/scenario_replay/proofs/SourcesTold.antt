@@ -19,10 +19,11 @@ use Rattle.shared_tables.specs.declared.change.Row.{Row}
 use Rattle.shared_tables.specs.declared.source.Source.{Source}
 use Rattle.shared_tables.specs.declared.tables.Tables.{Tables}
 use Rattle.store_api.specs.Contents.{Contents}
-use Rattle.scenario_replay.specs.Rows.{AreFirst, IsFirst, IsOwnView, entry_of, first_told, row_of, with_records}
+use Rattle.mesh_remote.specs.Shown.{IsOwnView}
+use Rattle.scenario_replay.specs.Rows.{AreFirst, IsFirst, entry_of, first_told, row_of, with_records}
 use Rattle.scenario_replay.specs.Shown.{AreShown}
-use Rattle.scenario_replay.specs.World as world
-use Rattle.scenario_replay.specs.declared.remote.Remote.{Remote}
+use Rattle.mesh_world.specs.World as world
+use Rattle.mesh_remote.specs.declared.remote.Remote.{Remote}
 
 -- ---- a change at a place
 module _ {X : Type 0} where

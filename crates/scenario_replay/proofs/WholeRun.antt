@@ -10,16 +10,17 @@ use Rattle.scenario_lang.specs.declared.scenario.Action.{Action}
 use Rattle.scenario_lang.specs.declared.scenario.Remote as said
 use Rattle.store_api.specs.Meaning.{Meaning}
 use Rattle.store_api.specs.Streams.{HoldsFront, HoldsMore}
-use Rattle.scenario_replay.specs.Actions.{act_all}
-use Rattle.scenario_replay.specs.Asking.{done}
-use Rattle.scenario_replay.specs.Goes.{NumberInTurn}
-use Rattle.scenario_replay.specs.Program.{NoneFailed, Ran, RanPlainly, Reports, WroteFront, WroteSome, OfRefusal, contents_of, refusal_line}
+use Rattle.mesh_world.specs.Actions.{act_all}
+use Rattle.mesh_world.specs.Asking.{done}
+use Rattle.mesh_world.specs.Goes.{NumberInTurn}
+use Rattle.mesh_world.specs.Runs.{NoneFailed, Reports, contents_of}
+use Rattle.scenario_replay.specs.Program.{Ran, RanPlainly, WroteFront, WroteSome, OfRefusal, refusal_line}
 use Rattle.scenario_replay.specs.Shown.{HasWorld, Makes}
-use Rattle.scenario_replay.specs.World.{first_world, new_remote, seconds_of}
+use Rattle.mesh_world.specs.World.{first_world, new_remote, seconds_of}
 use Rattle.scenario_replay.specs.declared.replay.Replay.{Replay}
 use Rattle.scenario_replay.proofs.Places.{as_many}
-use Rattle.scenario_replay.proofs.Plainly.{plainly}
-use Rattle.scenario_replay.proofs.Runs.{Goes-weaken}
+use Rattle.mesh_world.proofs.Plainly.{plainly}
+use Rattle.mesh_world.proofs.Runs.{Goes-weaken}
 
 first_many : (scenario : Said) (old : Replay) (before : List Meaning) → HasWorld (first_world scenario (contents_of before)) old before → length old.remotes.items ≡ length scenario.remotes
 first_many scenario old before has =

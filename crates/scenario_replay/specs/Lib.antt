@@ -1,11 +1,3 @@
-pub mod Actions
-pub mod Asking
-pub mod Goes
 pub mod Program
-pub mod Reads
-pub mod Records
 pub mod Rows
 pub mod Shown
-pub mod Sources
-pub mod Ways
-pub mod World

@@ -1,30 +1,15 @@
 -- What the program does with its words, its input, its output and the stores.
-use Rattle.std.specs.Prelude.{◌≡◌, ℕ, ◌-◌, ◌^◌, ◌<◌, List, [], ◌∷◌, ◌++◌, map, Option, Ok, Err, codes, Bool, true, false, bytes_eq, ◌⊎◌, length, IfSome}
+use Rattle.std.specs.Prelude.{◌≡◌, ℕ, List, [], ◌∷◌, ◌++◌, Option, Ok, Err, codes, Bool, false, bytes_eq, ◌⊎◌, length, IfSome}
 use Rattle.std.specs.Fmt.{decimal}
-use Rattle.relist_merge.specs.Records.{IsRecord}
-use Rattle.store_api.specs.Advance.{turned}
-use Rattle.store_api.specs.Contents.{Contents}
-use Rattle.store_api.specs.Followed.{Followed, in_at}
-use Rattle.store_api.specs.History.{History, revision}
 use Rattle.store_api.specs.Meaning.{Meaning}
-use Rattle.store_api.specs.Spans.{Record, cursor_of, is_caught_up}
 use Rattle.store_api.specs.Streams.{HoldsFront, HoldsMore, Took}
 use Rattle.scenario_lang.specs.Lines.{Said, scenario_of}
 use Rattle.scenario_lang.specs.declared.kinds.LineFault.{LineFault}
 use Rattle.scenario_lang.specs.declared.kinds.LineKind.{LineKind}
 use Rattle.scenario_lang.specs.declared.kinds.LineKind.TheVariants as kind
 use Rattle.scenario_lang.specs.declared.kinds.Mode.TheVariants as mode
-use Rattle.scenario_replay.specs.Actions.{act_all, run}
-use Rattle.scenario_replay.specs.Goes.{Leads, faults_at}
-use Rattle.scenario_replay.specs.World.{first_world}
-
-abbrev pub contents_of : List Meaning → List Contents
-contents_of stores = map (λ (m : Meaning). m.contents) stores
-
--- The text is that of the world that the scenario leads to from the stores' first contents, by outcomes of
--- the calls on the stores, all of them used; the stores have that world's contents, and the calls tally.
-abbrev pub Reports : Said → List Meaning → List Meaning → List ℕ → Type 0
-Reports said before after text = Leads (act_all said.actions) (first_world said (contents_of before)) before after (λ w. w.text ≡ text)
+use Rattle.mesh_world.specs.Actions.{run}
+use Rattle.mesh_world.specs.Runs.{Reports, contents_of}
 
 -- the input is a scenario, and all its reports were written
 pub record Ran (input : List ℕ) (before after : List Meaning) (held holds : Option (List ℕ)) : Type 0 where
@@ -42,10 +27,6 @@ pub record WroteFront (input : List ℕ) (before after : List Meaning) (held hol
   pub reports : Reports said before after text
   pub wrote : HoldsFront held holds text
 
--- no store's count of faults rose
-abbrev pub NoneFailed : List Meaning → List Meaning → Type 0
-NoneFailed before after = (i : ℕ) → faults_at after i ≡ faults_at before i
-
 -- Where no store's count of faults rose, the text and the contents of the stores are those of the run in
 -- which every call is made: a function of the scenario and the first contents.
 pub record RanPlainly (input : List ℕ) (before after : List Meaning) (held holds : Option (List ℕ)) : Type 0 where
@@ -53,19 +34,6 @@ pub record RanPlainly (input : List ℕ) (before after : List Meaning) (held hol
   pub reads : scenario_of mode.Step input ≡ Ok said
   pub wrote : HoldsMore held holds (run said (contents_of before) []).0.text
   pub stores : contents_of after ≡ (run said (contents_of before) []).0.stores
-
--- a turn without a limit, which was not refused, of a reader with a record of this history
-pub record EndsWhole (f : Followed) (history : History) (next : Record) : Type 0 where
-  pub cursor : cursor_of next.spans ≡ revision history
-  pub caught_up : f.synced (in_at f history (revision history)) ≡ true → is_caught_up f history next ≡ true
-
--- such a turn ends at the history's revision, where that has a number, and is caught up there where the
--- source is synced at it
-abbrev pub TurnsEndWhole : Type 0
-TurnsEndWhole = (f : Followed) (history : History) (compacted : ℕ) (r : Record)
-    → IsRecord history r → revision history < 2 ^ 64
-    → (turned (2 ^ 64 - 1) (revision history) compacted r).is_open ≡ true
-    → EndsWhole f history (turned (2 ^ 64 - 1) (revision history) compacted r)
 
 -- the words are the one word `step`
 abbrev pub is_step : List (List ℕ) → Bool

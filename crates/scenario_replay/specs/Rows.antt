@@ -3,7 +3,6 @@ use Rattle.std.specs.Prelude.{◌≡◌, ℕ, zero, suc, List, [], ◌∷◌, ma
 use Rattle.std.specs.FinMap.{empty, get}
 use Rattle.std.specs.List.{AllByRecursion, IsDistinct}
 use Rattle.mesh_base.specs.Order.{same_bytes}
-use Rattle.key_paths.specs.declared.hop.Hop.TheVariants.{State}
 use Rattle.record_check.specs.declared.limit.Limit.TheVariants.{Small}
 use Rattle.relist_merge.specs.Sight.{viewed}
 use Rattle.relist_merge.specs.Records.{AreWithin}
@@ -16,8 +15,9 @@ use Rattle.shared_tables.specs.declared.change.RecordChange.{RecordChange}
 use Rattle.shared_tables.specs.declared.change.Row.{Row}
 use Rattle.store_api.specs.History.{History, revision}
 use Rattle.store_api.specs.Spans.{Record, Span, seen}
-use Rattle.scenario_replay.specs.Sources.{sighted_set, state_of}
-use Rattle.scenario_replay.specs.declared.remote.Remote.{Remote}
+use Rattle.mesh_world.specs.Sources.{sighted_set, state_of}
+use Rattle.mesh_remote.specs.Shown.{IsViewOf}
+use Rattle.mesh_remote.specs.declared.remote.Remote.{Remote}
 use Rattle.scenario_replay.specs.declared.replay.Replay.{Replay}
 use Rattle.scenario_replay.specs.declared.sighting.Sighting.{Sighting}
 
@@ -51,13 +51,6 @@ with_records source records t = record t {
 }
 
 -- ---- what the agent has sighted of a remote
--- the view is one of the cluster with this name in the cluster's own store
-abbrev pub IsViewOf : List ℕ → View → Type 0
-IsViewOf name v = (viewed v).source ≡ record { cluster = name; hop = State; limit = Small }
-
-abbrev pub IsOwnView : Remote → Type 0
-IsOwnView r = IsViewOf r.exporter.cluster r.agent.view
-
 -- the values of the view's entries are what was sighted of the cluster along these spans of its history
 pub record Sights (name : List ℕ) (history : History) (spans : List Span) (v : View) : Type 0 where
   pub within : AreWithin (revision history) spans

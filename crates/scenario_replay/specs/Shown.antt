@@ -2,49 +2,17 @@
 use Rattle.std.specs.Prelude.{◌≡◌, ℕ, ◌≤◌, List, [], ◌∷◌, map, drop, length}
 use Rattle.std.specs.List.{All, IsDistinct}
 use Rattle.mesh_base.specs.Order.{same_bytes}
-use Rattle.flaky_link.specs.Link.{Link}
-use Rattle.scenario_lang.specs.declared.scenario.LinkName.{LinkName}
 use Rattle.scenario_lang.specs.declared.scenario.Remote as said
 use Rattle.store_api.specs.Contents.{Contents}
-use Rattle.store_api.specs.Calls.{Talk}
 use Rattle.store_api.specs.History.{History}
 use Rattle.store_api.specs.Meaning.{Meaning}
-use Rattle.scenario_replay.specs.Actions.{Does}
-use Rattle.scenario_replay.specs.Goes.{IsOpen, Leads}
-use Rattle.scenario_replay.specs.Reads.{IsRead}
-use Rattle.scenario_replay.specs.World as world
-use Rattle.scenario_replay.specs.Ways.{Held}
-use Rattle.scenario_replay.specs.World.{World, link_of, new_remote, with_link}
-use Rattle.scenario_replay.specs.declared.remote.Remote.{Remote}
+use Rattle.mesh_world.specs.Actions.{Does}
+use Rattle.mesh_world.specs.Goes.{IsOpen, Leads}
+use Rattle.mesh_world.specs.World as world
+use Rattle.mesh_world.specs.World.{World, link_of, new_remote, with_link}
+use Rattle.mesh_remote.specs.Shown.{IsShown}
+use Rattle.mesh_remote.specs.declared.remote.Remote.{Remote}
 use Rattle.scenario_replay.specs.declared.replay.Replay.{Replay}
-
--- the remote is the world's, over this history of its store
-pub record IsShown (history : History) (w : world.Remote) (r : Remote) : Type 0 where
-  pub exporter : r.exporter ≡ w.exporter
-  pub number : r.number ≡ w.exporter.number
-  pub to_exporter : r.to_exporter ≡ w.to_exporter
-  pub to_agent : r.to_agent ≡ w.to_agent
-  pub agent : IsRead w.exporter.cluster history w.reader r.agent
-
--- From the world's remote that it was, a talk over this link leads to the one that it is.
-pub record Spoke (link : LinkName) {X : Type 0} (talk : world.Remote → Talk (Unit {0}) X) (ends : X → world.Remote → world.Remote) (w : world.Remote) (new : Remote) (before after : Meaning) : Type 0 where
-  pub left : Link
-  pub came : X
-  pub held : Held (talk w) (link_of link w, before) (left, after) came
-  pub name : new.exporter.cluster ≡ w.exporter.cluster
-  pub shown : IsShown after.contents.history (ends came (with_link link (λ l. left) w)) new
-
--- so it does from each
-abbrev pub Speaks : LinkName → {X : Type 0} → (world.Remote → Talk (Unit {0}) X) → (X → world.Remote → world.Remote) → Remote → Remote → Meaning → Meaning → Type 0
-Speaks link talk ends old new before after = (w : world.Remote) → IsShown before.contents.history w old → Spoke link talk ends w new before after
-
--- a change without a call
-abbrev pub Changes : (world.Remote → world.Remote) → Remote → Remote → Type 0
-Changes change old new = (history : History) (w : world.Remote) → IsShown history w old → IsShown history (change w) new
-
--- it is some world's
-abbrev pub IsSome : History → Remote → Type 0
-IsSome history r = (w : world.Remote) × IsShown history w r
 
 -- so is each, over the contents of its store
 abbrev pub AreShown : List Contents → List world.Remote → List Remote → Type 0

@@ -2,12 +2,12 @@
 ghost use Rattle.std.specs.Prelude.{◌≡◌, ◌≤◌, ◌<◌, ◌+◌, List, All, OnOk, length, map, true};
 ghost use Rattle.std.specs.List.{AllByRecursion};
 ghost use Rattle.scenario_lang.specs.Valid.{IsActionOf};
-ghost use Rattle.scenario_replay.specs.Actions.{act, act_all, changes, compact, export, is_change, keep, most, place_of, restarted, start, tick_from, turn, write_raw};
-ghost use Rattle.scenario_replay.specs.Rows.{IsOwnView, IsTold};
+ghost use Rattle.mesh_world.specs.Actions.{act, act_all, changes, compact, export, is_change, keep, most, place_of, restarted, start, tick_from, turn, write_raw};
+ghost use Rattle.mesh_remote.specs.Shown.{IsOwnView};
+ghost use Rattle.scenario_replay.specs.Rows.{IsTold};
 ghost use Rattle.scenario_replay.specs.Shown.{HasSomeWorld, Makes, MakesPlainly};
 
 use crate::replay::Replay;
-use crate::stores;
 use mesh_base::Memory;
 use scenario_lang::{Action, Count, RawWrite, StoreOf};
 use std::alloc::Global;
@@ -121,7 +121,7 @@ impl Replay {
         ensures same { self.new ≡ self.old }
     {
         let _ = self.reports;
-        stores::write_raw(alloc, &mut stores[remote + 1], write)
+        mesh_remote::write_raw(alloc, &mut stores[remote + 1], write)
     }
 
     fn compact<S: StoreAdmin>(
@@ -137,7 +137,7 @@ impl Replay {
         ensures same { self.new ≡ self.old }
     {
         let _ = self.reports;
-        stores::compact(alloc, &mut stores[place_of(store)], upto)
+        mesh_remote::compact(alloc, &mut stores[place_of(store)], upto)
     }
 
     // The clocks of the local store and of each remote's.
@@ -152,7 +152,7 @@ impl Replay {
         ensures same { self.new ≡ self.old }
     {
         for place in 0..self.remotes.len() + 1 {
-            stores::tick(alloc, &mut stores[place], seconds)?;
+            mesh_remote::tick(alloc, &mut stores[place], seconds)?;
         }
         Ok(())
     }

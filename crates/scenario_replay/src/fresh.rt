@@ -1,5 +1,5 @@
 ghost use Rattle.std.specs.Prelude.{◌≡◌, length, map, All, IfOk};
-ghost use Rattle.scenario_replay.specs.Goes.{IsFresh, IsOpen, NumberInTurn};
+ghost use Rattle.mesh_world.specs.Goes.{IsFresh, IsOpen, NumberInTurn};
 
 use memory_store::MemoryStore;
 use std::alloc::Global;

@@ -3,15 +3,15 @@ ghost use Rattle.std.specs.Prelude.{◌≡◌, ◌≤◌, List, All, IfOk, lengt
 ghost use Rattle.scenario_lang.specs.Valid.{IsValid};
 ghost use Rattle.scenario_lang.specs.declared.kinds.Mode.TheVariants as mode;
 ghost use Rattle.store_api.specs.Meaning.{Meaning};
-ghost use Rattle.scenario_replay.specs.Goes.{IsOpen};
-ghost use Rattle.scenario_replay.specs.Program.{contents_of};
+ghost use Rattle.mesh_world.specs.Goes.{IsOpen};
+ghost use Rattle.mesh_world.specs.Runs.{contents_of};
 ghost use Rattle.scenario_replay.specs.Rows.{IsTold};
 ghost use Rattle.scenario_replay.specs.Shown.{AreNew, HasWorld};
-ghost use Rattle.scenario_replay.specs.World.{first_world, seconds_of};
+ghost use Rattle.mesh_world.specs.World.{first_world, seconds_of};
 
-use crate::remote::Remote;
 use crate::sighting::Sighting;
 use mesh_base::{Bytes, Memory};
+use mesh_remote::Remote;
 use mesh_text::ClusterName;
 use scenario_lang::Scenario;
 use std::alloc::Global;

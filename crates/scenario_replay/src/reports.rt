@@ -3,17 +3,18 @@ ghost use Rattle.std.specs.Prelude.{◌≡◌, ◌≤◌, ◌<◌, ℕ, List, If
 ghost use Rattle.store_api.specs.Contents.{Contents};
 ghost use Rattle.store_api.specs.History.{History};
 ghost use Rattle.store_api.specs.Meaning.{Meaning};
-ghost use Rattle.scenario_replay.specs.Actions.{changes, reported};
+ghost use Rattle.mesh_world.specs.Actions.{changes, reported};
 ghost use Rattle.scenario_replay.specs.Rows.{HasTables, IsTold};
-ghost use Rattle.scenario_replay.specs.Shown.{AreShown, HasSomeWorld, IsShown, MakesPlainly};
-ghost use Rattle.scenario_replay.specs.Sources.{IsReportOf, of_each, sighted_set, source_row};
-ghost use Rattle.scenario_replay.specs.World as world;
+ghost use Rattle.mesh_remote.specs.Shown.{IsShown};
+ghost use Rattle.scenario_replay.specs.Shown.{AreShown, HasSomeWorld, MakesPlainly};
+ghost use Rattle.mesh_world.specs.Sources.{IsReportOf, of_each, sighted_set, source_row};
+ghost use Rattle.mesh_world.specs.World as world;
 
-use crate::remote::Remote;
 use crate::replay::Replay;
 use crate::sighting::Sighting;
 use key_paths::Hop;
 use mesh_base::{Items, Memory};
+use mesh_remote::Remote;
 use report_text::{Head, order_is_not_printed, report_bytes};
 use shared_tables::{Report, SourceRow};
 use std::alloc::Global;

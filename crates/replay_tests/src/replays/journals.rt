@@ -2,7 +2,7 @@
 ghost use Rattle.std.specs.Prelude.{◌≡◌, ◌∷◌, [], length, map, All, IfOk, None};
 ghost use Rattle.store_api.specs.declared.change.Change.TheVariants.{Put};
 ghost use Rattle.memory_store.specs.Journal.{IsJournal};
-ghost use Rattle.scenario_replay.specs.Goes.{IsOpen};
+ghost use Rattle.mesh_world.specs.Goes.{IsOpen};
 
 use memory_store::MemoryStore;
 use scenario_replay::fresh_stores;

@@ -1,6 +1,6 @@
 use Rattle.std.proofs.Common.{refl}
 use Rattle.std.proofs.lemmas.List.Elements.{All-map}
-use Rattle.scenario_replay.specs.Goes.{IsOpen}
+use Rattle.mesh_world.specs.Goes.{IsOpen}
 use Rattle.scenario_cases.proofs.losing.losing_stores.Goals as goal
 
 pub returns-clause-open : goal.returns-clause-open

@@ -1,6 +1,6 @@
 use Rattle.std.proofs.Common.{◌≡◌, true, refl}
 use Rattle.std.proofs.lemmas.List.Elements.{All-map}
-use Rattle.scenario_replay.specs.Goes.{IsFresh, IsOpen}
+use Rattle.mesh_world.specs.Goes.{IsFresh, IsOpen}
 use Rattle.store_api.specs.Meaning.{Meaning}
 use Rattle.scenario_replay.proofs.fresh.fresh_stores.Goals as goal
 

@@ -1,6 +1,6 @@
 use Rattle.std.proofs.Common.{◌≡◌, length, All}
 use Rattle.memory_store.specs.Stored.{Stored, meaning_of}
-use Rattle.scenario_replay.specs.Goes.{IsFresh}
+use Rattle.mesh_world.specs.Goes.{IsFresh}
 use Rattle.scenario_replay.proofs.fresh.fresh_stores.Given as goal
 
 abbrev pub invariant-loop-place : goal.invariant-loop-place

@@ -2,7 +2,7 @@ use Rattle.std.proofs.Common.{◌<◌, ◌∙◌, ◌∷◌, ◌++◌, [], List,
 use Rattle.std.proofs.lemmas.List.{take_more}
 use Rattle.scenario_lang.specs.declared.scenario.Remote as said
 use Rattle.scenario_replay.specs.Shown.{AreNew}
-use Rattle.scenario_replay.specs.declared.remote.Remote.{Remote}
+use Rattle.mesh_remote.specs.declared.remote.Remote.{Remote}
 use Rattle.scenario_replay.proofs.Beginnings.{new_push}
 use Rattle.scenario_replay.proofs.replay.new_remotes.Goals as goal
 

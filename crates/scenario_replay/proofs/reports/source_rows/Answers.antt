@@ -1,6 +1,6 @@
 use Rattle.std.proofs.Common.{◌+◌, ◌∷◌, [], ℕ, length, get_or, sym, ap, ◌∙◌, subst, arith, length-append}
 use Rattle.shared_tables.specs.declared.rows.SourceRow.{SourceRow}
-use Rattle.scenario_replay.specs.declared.remote.Remote.{Remote}
+use Rattle.mesh_remote.specs.declared.remote.Remote.{Remote}
 use Rattle.scenario_replay.proofs.Reported.{AreRowsOf, all_rows, more_rows}
 use Rattle.scenario_replay.proofs.reports.source_rows.Goals as goal
 

@@ -1,7 +1,7 @@
 use Rattle.std.proofs.Common.{◌∙◌, map}
 use Rattle.std.proofs.lemmas.List.{length-map}
-use Rattle.scenario_replay.specs.Program.{contents_of}
-use Rattle.scenario_replay.specs.World.{first_world}
+use Rattle.mesh_world.specs.Runs.{contents_of}
+use Rattle.mesh_world.specs.World.{first_world}
 use Rattle.scenario_replay.proofs.WholeRun.{actions_fit, reports_of}
 use Rattle.scenario_replay.proofs.top.run.Goals as goal
 

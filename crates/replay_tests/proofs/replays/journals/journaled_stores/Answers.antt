@@ -1,6 +1,6 @@
 use Rattle.std.proofs.Common.{refl, slice_set}
 use Rattle.std.proofs.lemmas.List.Elements.{All-map}
-use Rattle.scenario_replay.specs.Goes.{IsOpen}
+use Rattle.mesh_world.specs.Goes.{IsOpen}
 use Rattle.replay_tests.proofs.replays.journals.journaled_stores.Goals as goal
 
 pub returns-clause-open : goal.returns-clause-open

@@ -1,8 +1,8 @@
 use Rattle.std.proofs.Common.{ℕ, ◌+◌, ap, length, map, refl, sym}
 use Rattle.indexmap.proofs.MapLemmas.{OnOk-map}
 use Rattle.scenario_lang.specs.declared.scenario.Action.TheVariants as action
-use Rattle.scenario_replay.specs.Actions.{changes, compact, export, keep, place_of, reported, restarted, start, tick_from, turn, write_raw}
-use Rattle.scenario_replay.specs.World.{World}
+use Rattle.mesh_world.specs.Actions.{changes, compact, export, keep, place_of, reported, restarted, start, tick_from, turn, write_raw}
+use Rattle.mesh_world.specs.World.{World}
 use Rattle.scenario_replay.proofs.Acts.{act_as}
 use Rattle.scenario_replay.proofs.SourcesTold.{own_views}
 use Rattle.scenario_replay.proofs.replay.Replay.act.Goals as goal

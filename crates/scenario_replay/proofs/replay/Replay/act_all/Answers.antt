@@ -1,12 +1,12 @@
 use Rattle.std.proofs.Common.{◌∙◌, List, arith, map, refl, subst}
 use Rattle.std.proofs.lemmas.List.{drop_all}
 use Rattle.scenario_lang.specs.declared.scenario.Action.{Action}
-use Rattle.scenario_replay.specs.Actions.{act_all}
-use Rattle.scenario_replay.specs.Goes.{Goes}
+use Rattle.mesh_world.specs.Actions.{act_all}
+use Rattle.mesh_world.specs.Goes.{Goes}
 use Rattle.scenario_replay.specs.Shown.{HasWorld}
 use Rattle.scenario_replay.proofs.Acts.{act_next}
 use Rattle.scenario_replay.proofs.Counts.{many_same}
-use Rattle.scenario_replay.proofs.Runs.{Goes-none}
+use Rattle.mesh_world.proofs.Runs.{Goes-none}
 use Rattle.scenario_replay.proofs.replay.Replay.act_all.Goals as goal
 
 pub loop-action-init : goal.loop-action-init

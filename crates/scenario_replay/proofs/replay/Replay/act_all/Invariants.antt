@@ -1,9 +1,9 @@
 use Rattle.std.proofs.Common.{◌≡◌, drop, length, map}
-use Rattle.scenario_replay.specs.Actions.{act_all}
-use Rattle.scenario_replay.specs.Goes.{Goes}
+use Rattle.mesh_world.specs.Actions.{act_all}
+use Rattle.mesh_world.specs.Goes.{Goes}
 use Rattle.scenario_replay.specs.Rows.{IsTold}
 use Rattle.scenario_replay.specs.Shown.{HasWorld}
-use Rattle.scenario_replay.specs.World.{World}
+use Rattle.mesh_world.specs.World.{World}
 use Rattle.scenario_replay.proofs.replay.Replay.act_all.Given as goal
 
 -- the actions in front were done

@@ -7,14 +7,15 @@ use Rattle.mesh_records.specs.Written.{text_of}
 use Rattle.scenario_lang.specs.declared.scenario.Action.{Action}
 use Rattle.scenario_lang.specs.declared.scenario.Action.TheVariants as action
 use Rattle.scenario_lang.specs.Valid.{IsActionOf}
-use Rattle.scenario_replay.specs.Actions.{act, is_change, when_of, with_failure, with_way}
-use Rattle.scenario_replay.specs.Records.{address_key, address_of, declaring, declaring_node, identity_key, identity_of, node_key_of, node_record, withdrawing, withdrawn_key}
-use Rattle.scenario_replay.specs.Shown.{Changes, MakesPlainly}
-use Rattle.scenario_replay.specs.World.{with_exporter, with_link}
-use Rattle.scenario_replay.specs.World as world
+use Rattle.mesh_world.specs.Actions.{act, is_change, when_of, with_failure, with_way}
+use Rattle.mesh_world.specs.Records.{address_key, address_of, declaring, declaring_node, identity_key, identity_of, node_key_of, node_record, withdrawing, withdrawn_key}
+use Rattle.mesh_remote.specs.Shown.{Changes}
+use Rattle.scenario_replay.specs.Shown.{MakesPlainly}
+use Rattle.mesh_world.specs.World.{with_exporter, with_link}
+use Rattle.mesh_world.specs.World as world
 use Rattle.scenario_replay.specs.declared.replay.Replay.{Replay}
 use Rattle.scenario_replay.proofs.Changes.{changed, declare_keeps, link_keeps, with_remote, withdraw_keeps}
-use Rattle.scenario_replay.specs.declared.agent.Agent.{Agent}
+use Rattle.mesh_remote.specs.declared.agent.Agent.{Agent}
 use Rattle.scenario_replay.proofs.Sightings.{kept_tables}
 use Rattle.scenario_replay.proofs.replay.Replay.change.Goals as goal
 

@@ -1,5 +1,5 @@
 use Rattle.std.proofs.Common.{◌≤◌, ℕ, OnOk, length, map, slice_set, subst, sym}
-use Rattle.scenario_replay.specs.Actions.{compact}
+use Rattle.mesh_world.specs.Actions.{compact}
 use Rattle.scenario_replay.specs.Shown.{Makes}
 use Rattle.scenario_replay.proofs.Answered.{done_compacted}
 use Rattle.scenario_replay.proofs.replay.Replay.compact.Goals as goal

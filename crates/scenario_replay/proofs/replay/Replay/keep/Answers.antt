@@ -2,9 +2,9 @@ use Rattle.std.proofs.Common.{ap, refl}
 use Rattle.std.specs.Vec.{with_item}
 use Rattle.exporter.specs.Talks.{keep_talk}
 use Rattle.scenario_lang.specs.declared.scenario.LinkName.TheVariants as link
-use Rattle.scenario_replay.specs.Actions.{came_to}
-use Rattle.scenario_replay.proofs.Talks.{done_spoken}
-use Rattle.scenario_replay.specs.declared.agent.Agent.{Agent}
+use Rattle.mesh_world.specs.Actions.{came_to}
+use Rattle.scenario_replay.proofs.Spoken.{done_spoken}
+use Rattle.mesh_remote.specs.declared.agent.Agent.{Agent}
 use Rattle.scenario_replay.proofs.Sightings.{kept_tables}
 use Rattle.scenario_replay.proofs.replay.Replay.keep.Goals as goal
 

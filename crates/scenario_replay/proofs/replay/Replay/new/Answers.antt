@@ -1,10 +1,10 @@
 use Rattle.std.proofs.Common.{◌≤◌, ℕ, List, ◌∷◌, length, map, refl, subst, sym, arith}
 use Rattle.std.specs.List.{AllByRecursion, IsDistinct}
 use Rattle.mesh_base.specs.Order.{same_bytes}
-use Rattle.scenario_replay.specs.Rows.{IsOwnView}
+use Rattle.mesh_remote.specs.Shown.{IsOwnView}
 use Rattle.scenario_replay.specs.Shown.{AreNew}
-use Rattle.scenario_replay.specs.World.{seconds_of}
-use Rattle.scenario_replay.specs.declared.remote.Remote.{Remote}
+use Rattle.mesh_world.specs.World.{seconds_of}
+use Rattle.mesh_remote.specs.declared.remote.Remote.{Remote}
 use Rattle.scenario_replay.proofs.Beginnings.{has_first, new_apart, new_many, new_own, some_seconds}
 use Rattle.scenario_replay.proofs.Changes.{cluster_of}
 use Rattle.scenario_replay.proofs.replay.Replay.new.Goals as goal

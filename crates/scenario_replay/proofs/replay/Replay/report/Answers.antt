@@ -1,7 +1,7 @@
 use Rattle.std.proofs.Common.{◌≡◌, ◌≤◌, ℕ, ◌+◌, List, ◌++◌, length, sym, ap, ◌∙◌, subst, arith}
 use Rattle.scenario_replay.specs.Rows.{HasTables}
 use Rattle.scenario_replay.specs.Shown.{AreShown}
-use Rattle.scenario_replay.specs.declared.remote.Remote.{Remote}
+use Rattle.mesh_remote.specs.declared.remote.Remote.{Remote}
 use Rattle.scenario_replay.proofs.Reported.{one_report_more}
 use Rattle.scenario_replay.proofs.replay.Replay.report.Goals as goal
 

@@ -1,8 +1,8 @@
 use Rattle.std.proofs.Common.{◌∙◌, ◌<◌, length, arith, refl}
 use Rattle.std.proofs.lemmas.List.{length-set}
 use Rattle.store_api.specs.Spans.{unread}
-use Rattle.scenario_replay.specs.Actions.{changes, restarted}
-use Rattle.scenario_replay.specs.World.{with_reader}
+use Rattle.mesh_world.specs.Actions.{changes, restarted}
+use Rattle.mesh_world.specs.World.{with_reader}
 use Rattle.scenario_replay.proofs.Changes.{AreFront-more, AreFront-none, restarted_all}
 use Rattle.shared_tables.specs.Told.{told}
 use Rattle.scenario_replay.proofs.Sightings.{all_set, changed_tables, same_view, sources_many}

@@ -1,8 +1,9 @@
 use Rattle.std.proofs.Common.{◌≡◌, length}
 use Rattle.std.specs.List.{AllByRecursion}
 use Rattle.store_api.specs.Spans.{unread}
-use Rattle.scenario_replay.specs.Rows.{IsOwnView, IsTold}
-use Rattle.scenario_replay.specs.World.{with_reader}
+use Rattle.mesh_remote.specs.Shown.{IsOwnView}
+use Rattle.scenario_replay.specs.Rows.{IsTold}
+use Rattle.mesh_world.specs.World.{with_reader}
 use Rattle.scenario_replay.proofs.Changes.{AreFront}
 use Rattle.scenario_replay.proofs.replay.Replay.restart_agent.Given as goal
 

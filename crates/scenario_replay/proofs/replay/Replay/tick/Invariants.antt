@@ -1,8 +1,8 @@
 use Rattle.std.proofs.Common.{◌+◌, ◌-◌, length, map}
-use Rattle.scenario_replay.specs.Actions.{tick_from}
-use Rattle.scenario_replay.specs.Goes.{Goes}
+use Rattle.mesh_world.specs.Actions.{tick_from}
+use Rattle.mesh_world.specs.Goes.{Goes}
 use Rattle.scenario_replay.specs.Shown.{HasWorld}
-use Rattle.scenario_replay.specs.World.{World}
+use Rattle.mesh_world.specs.World.{World}
 use Rattle.scenario_replay.proofs.replay.Replay.tick.Given as goal
 
 -- the clocks of the stores in front were moved

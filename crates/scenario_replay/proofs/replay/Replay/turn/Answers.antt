@@ -5,9 +5,9 @@ use Rattle.reflector.specs.Talks.{turn_talk}
 use Rattle.scenario_lang.specs.declared.scenario.LinkName.TheVariants as link
 use Rattle.shared_tables.specs.Told.{told}
 use Rattle.scenario_replay.specs.Rows.{HasTables}
-use Rattle.scenario_replay.specs.World.{with_reader}
-use Rattle.scenario_replay.specs.declared.remote.Remote.{Remote}
-use Rattle.scenario_replay.proofs.Talks.{makes_spoken}
+use Rattle.mesh_world.specs.World.{with_reader}
+use Rattle.mesh_remote.specs.declared.remote.Remote.{Remote}
+use Rattle.scenario_replay.proofs.Spoken.{makes_spoken}
 use Rattle.scenario_replay.proofs.Sightings.{changed_tables, same_tables, sources_many}
 use Rattle.scenario_replay.proofs.Worlds.{shown_some}
 use Rattle.scenario_replay.proofs.replay.Replay.turn.Goals as goal

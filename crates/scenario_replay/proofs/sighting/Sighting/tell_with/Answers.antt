@@ -1,7 +1,7 @@
 use Rattle.std.proofs.Common.{◌≡◌, ℕ, List, get_or, true, refl, subst, arith}
 use Rattle.std.specs.Vec.{with_item}
 use Rattle.shared_tables.specs.Told.{told}
-use Rattle.scenario_replay.specs.declared.remote.Remote.{Remote}
+use Rattle.mesh_remote.specs.declared.remote.Remote.{Remote}
 use Rattle.scenario_replay.proofs.Sightings.{nothing_at, own_view, sources_many, still_there, tables_told}
 use Rattle.scenario_replay.proofs.sighting.Sighting.tell_with.Goals as goal
 

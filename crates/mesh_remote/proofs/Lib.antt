@@ -1,0 +1,4 @@
+pub mod NameBytes
+pub mod Readers
+pub mod Remotes
+pub mod Ways

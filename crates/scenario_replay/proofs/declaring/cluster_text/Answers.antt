@@ -1,7 +1,0 @@
-use Rattle.std.proofs.Common.{sym, subst}
-use Rattle.std.specs.Str.{IsUtf8}
-use Rattle.scenario_replay.proofs.NameBytes.{cluster_name_utf8}
-use Rattle.scenario_replay.proofs.declaring.cluster_text.Goals as goal
-
-pub unreachable-requires : goal.unreachable-requires
-unreachable-requires c = c.in-Err.ensures.cases.0 (subst IsUtf8 (sym c.as_bytes.ensures.bytes) (cluster_name_utf8 c.args.name.now c.as_bytes.ensures.valid))
