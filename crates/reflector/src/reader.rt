@@ -98,10 +98,9 @@ impl Reflector {
         ensures within { self.new.is_waiting ≡ false → self.new.cursor ≤ revision (S.meaning store.new).contents.history }
         ensures all { most ≡ 2 ^ 64 - 1 → OnOk result (self.new.is_waiting ≡ false → self.new.cursor ≡ revision (S.meaning store.new).contents.history) }
 
-        // The record of what the reader followed goes on by the rules on numbers, or is closed where
-        // the call was lost; and the delivery is what the history has for a reader with that record.
+        // The record of what the reader followed goes on by what was handed on, and that is what the
+        // history has for a reader with that record.
         ensures stands { (r : Record) → Stands self.old r → IfOk result (λ turn. Stands self.new (followed turn r)) }
-        ensures advance { (r : Record) → Stands self.old r → IfOk result (λ turn. turn ≢ Turn.Lost → followed turn r ≡ turned most (revision (S.meaning store.new).contents.history) (S.meaning store.new).contents.compacted r) }
         ensures reads { (r : Record) → Stands self.old r → IfOk result (λ turn. IsGivenIf self.old.ranges (S.meaning store.new).contents.history r (delivery_of turn)) }
 
         // Its spans go on in order. And where nobody took what was handed on, a reader that then loses
@@ -109,14 +108,13 @@ impl Reflector {
         ensures in_order { (r : Record) → Stands self.old r → AreSpans (revision (S.meaning store.old).contents.history) r.spans → IfOk result (λ turn. AreSpans (revision (S.meaning store.new).contents.history) (followed turn r).spans) }
         ensures untaken { (r : Record) → Stands self.old r → AreSpans (revision (S.meaning store.old).contents.history) r.spans → OnOk result (Stands (record self.new { is_waiting = true }) (closed r)) }
 
-        // No effect on the store.
-        ensures made { IfOk result (λ turn. turn ≢ Turn.Lost → Makes (S.meaning store.old) (S.meaning store.new) unchanged) }
-        ensures lost { result ≡ Ok Turn.Lost → MayMake (S.meaning store.old) (S.meaning store.new) unchanged }
+        // One call, without an effect: a list where the reader waited, else a pull from behind its
+        // cursor.
+        ensures call { IfOk result (λ turn. Crosses S.meaning S.crossed (asked self.old) (end_of turn) store.old store.new) }
         ensures refused { OnErr result (Makes (S.meaning store.old) (S.meaning store.new) unchanged) }
 
-        ensures crossed { IfOk result (λ turn. S.crossed store.old store.new (asked self.old) (end_of turn)) }
-
-        // The turn is the talk of the record: one call, and the record goes on by what was heard of it.
+        // So the turn is the talk of the record, which goes on by what was heard of that call: by the
+        // rules on numbers alone, or it is closed where the call was lost.
         ensures talk { (r : Record) → Stands self.old r → IfOk result (λ turn. Talked (on_store S.meaning S.crossed) (turn_talk most r) store.old store.new (followed turn r)) }
 
         ensures keeps { Keeps (S.meaning store.old) (S.meaning store.new) }
@@ -134,10 +132,7 @@ impl Reflector {
         requires there { self.now.is_waiting ≡ false → self.now.cursor ≤ revision (S.meaning store.old).contents.history }
         ensures answer { IfOk result (IsAnswer most (S.meaning store.new).contents self.now) }
         ensures below { IfOk result (λ turn. (after_turn turn self.now).cursor < 2 ^ 64 - 1) }
-        ensures made { IfOk result (λ turn. turn ≢ Turn.Lost → Makes (S.meaning store.old) (S.meaning store.new) unchanged) }
-        ensures lost { result ≡ Ok Turn.Lost → MayMake (S.meaning store.old) (S.meaning store.new) unchanged }
         ensures refused { OnErr result (Makes (S.meaning store.old) (S.meaning store.new) unchanged) }
-        ensures crossed { IfOk result (λ turn. S.crossed store.old store.new (asked self.now) (end_of turn)) }
         ensures call { IfOk result (λ turn. Crosses S.meaning S.crossed (asked self.now) (end_of turn) store.old store.new) }
         ensures keeps { Keeps (S.meaning store.old) (S.meaning store.new) }
         ensures named { S.name store.new ≡ S.name store.old }
@@ -155,10 +150,7 @@ impl Reflector {
         requires { self.now.is_waiting ≡ true }
         ensures answer { (most : ℕ) → IfOk result (IsAnswer most (S.meaning store.new).contents self.now) }
         ensures below { IfOk result (λ turn. (after_turn turn self.now).cursor < 2 ^ 64 - 1) }
-        ensures made { IfOk result (λ turn. turn ≢ Turn.Lost → Makes (S.meaning store.old) (S.meaning store.new) unchanged) }
-        ensures lost { result ≡ Ok Turn.Lost → MayMake (S.meaning store.old) (S.meaning store.new) unchanged }
         ensures refused { OnErr result (Makes (S.meaning store.old) (S.meaning store.new) unchanged) }
-        ensures crossed { IfOk result (λ turn. S.crossed store.old store.new (asked self.now) (end_of turn)) }
         ensures call { IfOk result (λ turn. Crosses S.meaning S.crossed (asked self.now) (end_of turn) store.old store.new) }
         ensures keeps { Keeps (S.meaning store.old) (S.meaning store.new) }
         ensures named { S.name store.new ≡ S.name store.old }
@@ -179,10 +171,7 @@ impl Reflector {
         requires there { self.now.cursor ≤ revision (S.meaning store.old).contents.history }
         ensures answer { IfOk result (IsAnswer most (S.meaning store.new).contents self.now) }
         ensures below { IfOk result (λ turn. (after_turn turn self.now).cursor < 2 ^ 64 - 1) }
-        ensures made { IfOk result (λ turn. turn ≢ Turn.Lost → Makes (S.meaning store.old) (S.meaning store.new) unchanged) }
-        ensures lost { result ≡ Ok Turn.Lost → MayMake (S.meaning store.old) (S.meaning store.new) unchanged }
         ensures refused { OnErr result (Makes (S.meaning store.old) (S.meaning store.new) unchanged) }
-        ensures crossed { IfOk result (λ turn. S.crossed store.old store.new (asked self.now) (end_of turn)) }
         ensures call { IfOk result (λ turn. Crosses S.meaning S.crossed (asked self.now) (end_of turn) store.old store.new) }
         ensures keeps { Keeps (S.meaning store.old) (S.meaning store.new) }
         ensures named { S.name store.new ≡ S.name store.old }
